@@ -1,0 +1,5 @@
+use Rattle.figures.proofs.Shares.{positions, thirds, halves}
+use Rattle.figures.proofs.figures.Needs as need
+
+pub returns : need.returns
+returns c = record { positions = positions; thirds = thirds; halves = halves }

@@ -1,0 +1,9 @@
+pub mod Sums
+pub mod Ranks
+pub mod Division
+pub mod Dealt
+pub mod Unique
+pub mod Within
+pub mod Columns
+pub mod Signs
+pub mod Amounts
