@@ -165,7 +165,7 @@ impl Refusal {
             Refusal::NumeratorTooLarge => "the amount or numerator is above 20,000,000,000",
             Refusal::DenominatorOutOfRange => "the denominator is not 1 to 1,000,000,000,000",
             Refusal::ProductTooLarge =>
-                "the amount or numerator times the sum of the claims is above 9,000,000,000,000,000,000",
+                "the amount or numerator times the sum of the sizes is above 9,000,000,000,000,000,000",
             Refusal::NoWeight => "an amount cannot be shared over weights that are all nil",
             Refusal::TermOutOfRange => "a term is out of its range",
             Refusal::BandOrder => "a cumulable band is above the allowed band of its side",

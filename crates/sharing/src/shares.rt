@@ -4,10 +4,10 @@ ghost use mathlib.Core.List.{map};
 ghost use Prim.Native.Nat.{_≤_};
 ghost use lib.ListN.{length};
 ghost use Rattle.std.specs.Results.{Cases};
-ghost use Rattle.sharing.specs.Sharing.{Shared, One-way};
-ghost use Rattle.sharing.specs.Limits.{Limits, Breaks};
-ghost use Rattle.sharing.specs.Amounts.{Over, Sharable, Unsharable, Fairly, One-over};
-ghost use Rattle.sharing.specs.Claims.{Taken};
+ghost use Rattle.sharing.specs.Sharing.{One-way};
+ghost use Rattle.sharing.specs.Limits.{Breaks};
+ghost use Rattle.sharing.specs.Amounts.{Unsharable, Fairly, One-over};
+ghost use Rattle.sharing.specs.Claims.{Given, Allotted};
 use crate::claims::Claim;
 use crate::dealing::deal;
 use crate::limits::MOST_CLAIMS;
@@ -31,22 +31,16 @@ fn share_over<C: Claim>(claims: &mut [C], rows: &mut [Row], p: u64, q: u64) -> R
     requires same { ⌜ length (now rows) ≡ length (now claims) ⌝ }
     requires few { ⌜ length (now claims) ≤ 40 ⌝ }
     ensures { λ r. ⌜ Cases r
-        (λ t. Limits p q (map told (now (claims .entry)))
-        × Shared p q (map told (now (claims .entry))) (map held (now (claims .exit))) t
-        × Taken told held taking (now (claims .entry)) (now (claims .exit)))
+        (λ t. Given told held taking p q (now (claims .entry)) (now (claims .exit)) t)
         (λ e. Breaks p q (map told (now (claims .entry))) e × (now (claims .exit) ≡ now (claims .entry))) ⌝ }
 {
     let Some(sum) = read(claims, rows) else {
         return Err(Refusal::ClaimTooLarge);
     };
-    match check_fraction(p, q, sum) {
-        Ok(()) => {
-            let total = deal(rows, p, q);
-            give(claims, rows);
-            Ok(total)
-        }
-        Err(refusal) => Err(refusal),
-    }
+    check_fraction(p, q, sum)?;
+    let total = deal(rows, p, q);
+    give(claims, rows);
+    Ok(total)
 }
 
 /// Shares `p / q` of the sum of the claims out to them, and answers the total: the nearest whole, of
@@ -54,9 +48,7 @@ fn share_over<C: Claim>(claims: &mut [C], rows: &mut [Row], p: u64, q: u64) -> R
 /// the largest remainders, of equal ones to the lower claim number. Refused, it changes no claim.
 pub fn share<C: Claim>(claims: &mut [C], p: u64, q: u64) -> Result<i64, Refusal>
     ensures shared { λ r. ⌜ Cases r
-        (λ t. Limits p q (map told (now (claims .entry)))
-        × Shared p q (map told (now (claims .entry))) (map held (now (claims .exit))) t
-        × Taken told held taking (now (claims .entry)) (now (claims .exit)))
+        (λ t. Given told held taking p q (now (claims .entry)) (now (claims .exit)) t)
         (λ e. Breaks p q (map told (now (claims .entry))) e × (now (claims .exit) ≡ now (claims .entry))) ⌝ }
     ensures one_way { λ _. ⌜ One-way ⌝ }
 {
@@ -77,9 +69,7 @@ fn share_amount_over<C: Claim>(
     requires same { ⌜ length (now rows) ≡ length (now claims) ⌝ }
     requires few { ⌜ length (now claims) ≤ 40 ⌝ }
     ensures { λ r. ⌜ Cases r
-        (λ _. Sharable amount (map told (now (claims .entry)))
-        × Over amount (map told (now (claims .entry))) (map held (now (claims .exit)))
-        × Taken told held taking (now (claims .entry)) (now (claims .exit)))
+        (λ _. Allotted told held taking amount (now (claims .entry)) (now (claims .exit)))
         (λ e. Unsharable amount (map told (now (claims .entry))) e × (now (claims .exit) ≡ now (claims .entry))) ⌝ }
 {
     let Some(sum) = read(claims, rows) else {
@@ -90,25 +80,19 @@ fn share_amount_over<C: Claim>(
     }
     let size = amount.unsigned_abs();
     let divisor = sum.max(1);
-    match check_fraction(size, divisor, sum) {
-        Ok(()) => {
-            by_size(rows);
-            deal(rows, size, divisor);
-            sign_by(rows, amount);
-            give(claims, rows);
-            Ok(())
-        }
-        Err(refusal) => Err(refusal),
-    }
+    check_fraction(size, divisor, sum)?;
+    by_size(rows);
+    deal(rows, size, divisor);
+    sign_by(rows, amount);
+    give(claims, rows);
+    Ok(())
 }
 
 /// Shares the amount out over the claims by the sizes of what they tell; every share has the sign of
 /// the amount. Over claims that are all nil only the amount nil is shared. Refused, it changes no claim.
 pub fn share_amount<C: Claim>(claims: &mut [C], amount: i64) -> Result<(), Refusal>
     ensures shared { λ r. ⌜ Cases r
-        (λ _. Sharable amount (map told (now (claims .entry)))
-        × Over amount (map told (now (claims .entry))) (map held (now (claims .exit)))
-        × Taken told held taking (now (claims .entry)) (now (claims .exit)))
+        (λ _. Allotted told held taking amount (now (claims .entry)) (now (claims .exit)))
         (λ e. Unsharable amount (map told (now (claims .entry))) e × (now (claims .exit) ≡ now (claims .entry))) ⌝ }
     ensures fair { λ _. ⌜ Fairly ⌝ }
     ensures one_over { λ _. ⌜ One-over ⌝ }

@@ -8,6 +8,7 @@ use mir.Syntax.{w64}
 use mir.Val.{toZ, ofZ, SFits}
 use borrow.Author.Needs.{needs}
 use Rattle.std.proofs.shelf.Lists.{length-map}
+use Rattle.std.proofs.shelf.Results.{err-from-errBy}
 use Rattle.std.proofs.shelf.Signed.{ints, toZ-ofZ}
 use Rattle.kinds.specs.declared.refusals.Refusal.the-variants.{ClaimTooLarge}
 use Rattle.sharing.specs.declared.rows.Row.{Row}
@@ -42,7 +43,7 @@ deal-requires g c κs =
     let ws = map (g .C·Claim .told) (c .args .claims .now) in
     let h = c .in-Some .ensures tt in
     let sized : values (c .by-size .last .rows) ≡ map size ws = c .by-size .ensures ∙ ap (map size) (h .2) in
-    rw sized (limits-sized _ _ ws (c .in-Ok .ensures tt ws (rw length-map (c .pre .few)) (h .0) (h .1)))
+    rw sized (limits-sized _ _ ws (c .in-Continue-check-fraction .ensures tt ws (rw length-map (c .pre .few)) (h .0) (h .1)))
 
 pub sign-by-requires : need.sign-by-requires
 sign-by-requires g c κs =
@@ -54,8 +55,8 @@ sign-by-requires g c κs =
     let n : sizes ws ≡ 0 → a ≡ pos 0 = λ z. omega (arith, ints, h .1, c .else-sum-eq0 .either) in
     low-from a ws _ _ n (shared-as a ws p q (c .by-size .ensures ∙ ap (map size) (h .2)) (c .deal .ensures .shared))
 
-pub returns-in-Ok : need.returns-in-Ok
-returns-in-Ok g c =
+pub returns : need.returns
+returns g c =
     let xs = c .args .claims .now in
     let zs = c .give .last .claims in
     let told = g .C·Claim .told in
@@ -73,17 +74,20 @@ returns-in-Ok g c =
     let same : length zs ≡ length xs = c .give .kept .claims in
     let turned : ss ≡ map (signed a) (shares (c .deal .last .rows)) = c .sign-by .ensures ∙ ap (λ (z : ℤ). map (signed z) (shares (c .deal .last .rows))) (toZ-ofZ w64 a (c .fits .amount)) in
     let long : length ss ≡ length xs = ap length turned ∙ length-map (shares (c .deal .last .rows)) (signed a) ∙ sh .long ∙ length-map ws size ∙ length-map xs told in
-    let is-held = takes-held told held taking (met .holds) (met .tells) ss xs zs same long (c .give .ensures) in (
-      record { limits = rw (p, q) at (c .in-Ok .ensures tt ws (rw length-map (c .pre .few)) (h .0) (h .1)); nothing = n },
-      rw (is-held ∙ turned) (over-from a ws (shares (c .deal .last .rows)) _ n sh),
-      takes-taken told held taking (met .holds) (met .tells) ss xs zs same long (c .give .ensures),
-    )
+    let is-held = takes-held told held taking (met .holds) (met .tells) ss xs zs same long (c .give .ensures) in
+    record {
+      sharable = record { limits = rw (p, q) at (c .in-Continue-check-fraction .ensures tt ws (rw length-map (c .pre .few)) (h .0) (h .1)); nothing = n };
+      over = rw (is-held ∙ turned) (over-from a ws (shares (c .deal .last .rows)) _ n sh);
+      taken = takes-taken told held taking (met .holds) (met .tells) ss xs zs same long (c .give .ensures);
+    }
 
-pub returns-in-Err : need.returns-in-Err
-returns-in-Err g c =
+pub returns-in-Break-check-fraction : need.returns-in-Break-check-fraction
+returns-in-Break-check-fraction g c =
     let ws = map (g .C·Claim .told) (c .args .claims .now) in
     let h = c .in-Some .ensures tt in
     let p = size-is (c .args .amount) _ (c .fits .amount) (c .unsigned-abs-size .ensures .value) in
     let n : sizes ws ≡ 0 → c .args .amount ≡ pos 0 = λ z. omega (arith, ints, h .1, c .else-sum-eq0 .either) in
     let q : c .max-divisor .result ≡ whole ws = omega (arith, c .max-divisor .ensures, h .1) in
-    (beyond (c .in-Err .refusal) n (rw (p, q) at (c .in-Err .ensures tt ws (rw length-map (c .pre .few)) (h .0) (h .1))), refl)
+    let e = rw (p, q) at (c .in-Break-check-fraction .ensures tt ws (rw length-map (c .pre .few)) (h .0) (h .1)) in
+    let x = err-from-errBy (c .from-residual .result) (c .from-residual .ensures .1) in
+    rw (x .1, x .2) (beyond _ n e, refl)
