@@ -1,0 +1,4 @@
+mod Cuts
+mod Exits
+mod Rows
+mod Keywords
