@@ -3,7 +3,7 @@ use mathlib.Core.Path.{_≡_, sym, subst}
 use Rattle.std.specs.Results.{ErrBy}
 use Rattle.std.specs.declared.result.Result.{Result}
 use Rattle.std.specs.declared.result.Result.the-variants.{Ok, Err}
-use Rattle.desk.specs.Fields.{Reads}
+use Rattle.desk.specs.Readers.{Reads}
 use Rattle.desk.specs.declared.fields.Fault.{Fault}
 use Rattle.desk.specs.declared.fields.Fault.the-variants.{Memory, Unreadable}
 
@@ -12,7 +12,3 @@ pub pass : {X Y : Type 0} (P : X → Type 0) (Q : Y → Type 0) (e : Fault) (r :
 pass P Q e (Ok y) h f part = absurd h
 pass P Q e (Err Memory) h f part = tt
 pass P Q e (Err Unreadable) h f part = λ y q. let g : Reads P (Err Unreadable) = subst (λ d. Reads P (Err d)) (sym h) f in g (part y q .0) (part y q .1)
-
--- where no y is right
-pub refuse : {Y : Type 0} (Q : Y → Type 0) (r : Result Y Fault) → ErrBy r (λ d. d ≡ Unreadable) → ((y : Y) → Q y → ⊥) → Reads Q r
-refuse Q r h none = pass Q Q Unreadable r h none (λ y q. (y, q))

@@ -1,7 +1,7 @@
 -- A word spells one keyword at most.
 use mathlib.Core.Path.{_≡_, refl, sym, ap, subst, _∙_}
 use mathlib.Core.Bool.{cond}
-use mathlib.Core.List.{List, _∷_}
+use mathlib.Core.List.{List, [], _∷_}
 use Prim.Native.Nat.{ℕ}
 use Rattle.std.specs.declared.option.Option.{Option}
 use Rattle.std.specs.declared.option.Option.the-variants.{None, Some}
@@ -11,11 +11,14 @@ use Rattle.desk.specs.declared.commands.Command.{Command}
 use Rattle.desk.specs.declared.commands.Keyword.{Keyword}
 use Rattle.desk.specs.declared.commands.Keyword.the-variants.{Share, Amount}
 
-unspelled : List ℕ → Option Keyword
-unspelled w = cond (sameBytes w (spelled Share)) (Some Share) (cond (sameBytes w (spelled Amount)) (Some Amount) None)
+abbrev among : List Keyword → List ℕ → Option Keyword
+among [] w = None
+among (k ∷ ks) w = cond (sameBytes w (spelled k)) (Some k) (among ks w)
+
+abbrev unspelled : List ℕ → Option Keyword
+unspelled w = among (Share ∷ Amount ∷ []) w
 
 back : (k : Keyword) → unspelled (spelled k) ≡ Some k
-unfolding unspelled
 back Share = refl
 back Amount = refl
 

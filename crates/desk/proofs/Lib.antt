@@ -1,4 +1,5 @@
 mod Cuts
 mod Exits
-mod Rows
 mod Keywords
+mod Listing
+mod Rows

@@ -9,14 +9,9 @@ use Rattle.std.specs.Written.{decimal, signed}
 use Rattle.std.specs.declared.option.Option.{Option}
 use Rattle.std.specs.declared.option.Option.the-variants.{Some, None}
 use Rattle.kinds.specs.declared.dates.Date.{Date}
-use Rattle.kinds.specs.declared.refusals.Refusal.{Refusal}
 use Rattle.kinds.specs.Refusals.{numberOf, dateOf, offsetOf, reasonOf}
 use Rattle.desk.specs.declared.answers.Answer.{Answer}
 use Rattle.desk.specs.declared.answers.Answer.the-variants.{Nothing, Shared, Amounts, Refused}
-use Rattle.desk.specs.declared.commands.Keyword.{Keyword}
-use Rattle.desk.specs.declared.commands.Keyword.the-variants.{Share, Amount}
-use Rattle.desk.specs.declared.commands.Expected.{Expected}
-use Rattle.desk.specs.declared.commands.Expected.the-variants.{Text, Keyword as AnyKeyword, Arguments}
 
 -- each number after a blank
 abbrev pub listed : List ℤ → List ℕ
@@ -36,20 +31,9 @@ placed (Some d) o = codes " " ++ dated d
 placed None (Some n) = codes " at " ++ decimal n
 placed None None = []
 
+-- what is printed for each answer
 abbrev pub answered : Answer → List ℕ
 answered Nothing = []
 answered (Shared total shares) = codes "total " ++ (signed total ++ (codes " shares" ++ listed (vec-items shares)))
 answered (Amounts shares) = codes "shares" ++ listed (vec-items shares)
 answered (Refused r) = codes "REFUSED " ++ (decimal (numberOf r) ++ (placed (dateOf r) (offsetOf r) ++ (codes " " ++ reasonOf r)))
-
-abbrev pub usage : Keyword → List ℕ
-usage Share = codes "share P Q V.."
-usage Amount = codes "amount A W.."
-
-abbrev pub wanted : Expected → List ℕ
-wanted Text = codes "a line of text"
-wanted AnyKeyword = codes "share or amount"
-wanted (Arguments k) = usage k
-
-abbrev pub unreadable : ℕ → Expected → List ℕ
-unreadable n x = codes "UNREADABLE " ++ (decimal n ++ (codes " expected " ++ wanted x))

@@ -17,6 +17,7 @@ use Rattle.desk.specs.declared.commands.Unread.the-variants.{Memory, Unreadabl
 use Rattle.desk.specs.Words.{before, words}
 use Rattle.desk.specs.Fields.{Natural, Number, First, Each}
 
+-- the word for each keyword
 abbrev pub spelled : Keyword → List ℕ
 spelled Share = codes "share"
 spelled Amount = codes "amount"
@@ -43,8 +44,10 @@ abbrev pub Unsaid : List (List ℕ) → Unread → Type 0
 Unsaid ws Memory = Unit {0}
 Unsaid ws (Unreadable x) = ((c : Command) → Says ws c → ⊥) × Expects ws x
 
+-- the words of the line, up to a comment, are the command
 abbrev pub Means : List ℕ → Command → Type 0
 Means line c = Says (words (before 35 line)) c
 
+-- and they are none
 abbrev pub Unmeant : List ℕ → Unread → Type 0
 Unmeant line e = Unsaid (words (before 35 line)) e

@@ -1,6 +1,8 @@
 pub mod Words
 pub mod Fields
+pub mod Readers
 pub mod Commands
 pub mod Answers
+pub mod Unreadable
 pub mod Figures
 pub mod Replies

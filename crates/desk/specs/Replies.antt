@@ -20,7 +20,8 @@ use Rattle.desk.specs.declared.commands.Command.the-variants.{Nothing as NoCom
 use Rattle.desk.specs.declared.commands.Expected.{Expected}
 use Rattle.desk.specs.declared.commands.Expected.the-variants.{Text}
 use Rattle.desk.specs.declared.commands.Unread.the-variants.{Unreadable}
-use Rattle.desk.specs.Answers.{answered, unreadable}
+use Rattle.desk.specs.Answers.{answered}
+use Rattle.desk.specs.Unreadable.{unreadable}
 use Rattle.desk.specs.Commands.{Means, Unmeant}
 
 -- the shares and the total by the rule of sharing, or the limit that is passed

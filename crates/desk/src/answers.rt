@@ -1,10 +1,10 @@
 //! Answers written as text.
 ghost use mathlib.Core.Path.{_≡_};
 ghost use Rattle.std.specs.Of.String.{string-bytes};
-ghost use Rattle.std.specs.Of.Vec.{vec-items};
 ghost use Rattle.std.specs.Vec.{made};
 ghost use Rattle.std.specs.declared.option.Option.the-variants.{Some};
-ghost use Rattle.desk.specs.Answers.{listed, padded, dated, placed, answered, usage, wanted, unreadable};
+ghost use Rattle.desk.specs.Answers.{listed, padded, dated, placed, answered};
+ghost use Rattle.desk.specs.Unreadable.{usage, wanted, unreadable};
 ghost use Rattle.kinds.specs.Refusals.{dateOf, offsetOf};
 use crate::commands::Expected;
 use crate::commands::Keyword;

@@ -3,7 +3,7 @@ ghost use mathlib.Core.Path.{_≡_};
 ghost use Rattle.std.specs.Options.{Cases as BySome};
 ghost use Rattle.std.specs.Results.{Cases};
 ghost use Rattle.desk.specs.Words.{texts};
-ghost use Rattle.desk.specs.Fields.{Reads};
+ghost use Rattle.desk.specs.Readers.{Reads};
 ghost use Rattle.desk.specs.Commands.{spelled, After, Says, Unsaid, Means, Unmeant};
 ghost use Rattle.desk.specs.declared.commands.Keyword.the-variants.{Share, Amount};
 ghost use Rattle.desk.specs.declared.commands.Unread.the-variants.{Memory};

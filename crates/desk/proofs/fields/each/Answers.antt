@@ -1,4 +1,3 @@
-use borrow.Author.Needs.{needs}
 use Rattle.desk.proofs.Exits.{pass}
 use Rattle.desk.proofs.Rows.{each-at, each-more, each-all}
 use Rattle.desk.proofs.fields.each.Needs as need

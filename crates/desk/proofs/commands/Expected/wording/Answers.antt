@@ -1,5 +1,5 @@
 use mathlib.Core.Path.{sym, ap}
-use Rattle.desk.specs.Answers.{wanted}
+use Rattle.desk.specs.Unreadable.{wanted}
 use Rattle.desk.proofs.commands.Expected.wording.Needs as need
 
 pub returns-in-Text : need.returns-in-Text

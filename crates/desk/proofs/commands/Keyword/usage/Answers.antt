@@ -1,5 +1,5 @@
 use mathlib.Core.Path.{sym, ap}
-use Rattle.desk.specs.Answers.{usage}
+use Rattle.desk.specs.Unreadable.{usage}
 use Rattle.desk.proofs.commands.Keyword.usage.Needs as need
 
 pub returns-in-Share : need.returns-in-Share
