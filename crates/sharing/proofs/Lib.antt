@@ -7,3 +7,4 @@ pub mod Within
 pub mod Columns
 pub mod Signs
 pub mod Amounts
+pub mod Exact

@@ -36,6 +36,10 @@ pub data Unsharable (a : ℤ) (ws : List ℤ) : Refusal → Type 0 where
   nothing : Few ws → Small ws → sizes ws ≡ 0 → (a ≡ pos 0 → ⊥) → Unsharable a ws NoWeight
   beyond : (e : Refusal) → (sizes ws ≡ 0 → a ≡ pos 0) → Breaks (natAbs a) (whole ws) ws e → Unsharable a ws e
 
+-- no amount both can and cannot be shared
+abbrev pub Exact-amounts : Type 0
+Exact-amounts = (a : ℤ) (ws : List ℤ) (e : Refusal) → Unsharable a ws e → Sharable a ws → ⊥
+
 -- what every sharing of an amount keeps
 pub record Fair (a : ℤ) (ws ss : List ℤ) : Type 0 where
   pub long : length ss ≡ length ws

@@ -33,3 +33,7 @@ pub data Breaks (p q : ℕ) (vs : List ℤ) : Refusal → Type 0 where
   high : Few vs → Small vs → 20000000000 < p → Breaks p q vs NumeratorTooLarge
   apart : Few vs → Small vs → p ≤ 20000000000 → (q ≡ 0) ⊎ (1000000000000 < q) → Breaks p q vs DenominatorOutOfRange
   wide : Few vs → Small vs → p ≤ 20000000000 → 0 < q → q ≤ 1000000000000 → 9000000000000000000 < p * sizes vs → Breaks p q vs ProductTooLarge
+
+-- nothing is both within the limits and past one
+abbrev pub Exact-limits : Type 0
+Exact-limits = (p q : ℕ) (vs : List ℤ) (e : Refusal) → Breaks p q vs e → Limits p q vs → ⊥

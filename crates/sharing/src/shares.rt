@@ -5,8 +5,8 @@ ghost use Prim.Native.Nat.{_≤_};
 ghost use lib.ListN.{length};
 ghost use Rattle.std.specs.Results.{Cases};
 ghost use Rattle.sharing.specs.Sharing.{One-way};
-ghost use Rattle.sharing.specs.Limits.{Breaks};
-ghost use Rattle.sharing.specs.Amounts.{Unsharable, Fairly, One-over};
+ghost use Rattle.sharing.specs.Limits.{Breaks, Exact-limits};
+ghost use Rattle.sharing.specs.Amounts.{Unsharable, Exact-amounts, Fairly, One-over};
 ghost use Rattle.sharing.specs.Claims.{Given, Allotted};
 use crate::claims::Claim;
 use crate::dealing::deal;
@@ -50,6 +50,7 @@ pub fn share<C: Claim>(claims: &mut [C], p: u64, q: u64) -> Result<i64, Refusal>
     ensures shared { λ r. ⌜ Cases r
         (λ t. Given told held taking p q (now (claims .entry)) (now (claims .exit)) t)
         (λ e. Breaks p q (map told (now (claims .entry))) e × (now (claims .exit) ≡ now (claims .entry))) ⌝ }
+    ensures exact { λ _. ⌜ Exact-limits ⌝ }
     ensures one_way { λ _. ⌜ One-way ⌝ }
 {
     let count = claims.len();
@@ -94,6 +95,7 @@ pub fn share_amount<C: Claim>(claims: &mut [C], amount: i64) -> Result<(), Refus
     ensures shared { λ r. ⌜ Cases r
         (λ _. Allotted told held taking amount (now (claims .entry)) (now (claims .exit)))
         (λ e. Unsharable amount (map told (now (claims .entry))) e × (now (claims .exit) ≡ now (claims .entry))) ⌝ }
+    ensures exact { λ _. ⌜ Exact-amounts ⌝ }
     ensures fair { λ _. ⌜ Fairly ⌝ }
     ensures one_over { λ _. ⌜ One-over ⌝ }
 {
