@@ -1,1 +1,3 @@
+-- The definitions that the contracts cite.
+pub mod Calendar
 pub mod Refusals
