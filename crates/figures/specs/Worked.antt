@@ -1,10 +1,13 @@
 -- The worked figures.
 use mathlib.Core.Path.{_≡_}
 use mathlib.Core.List.{List, [], _∷_}
-use Prim.Native.Nat.{ℕ}
+use Prim.Native.Nat.{ℕ, _*_}
 use lib.IntN.{ℤ, pos, negsuc}
 use Rattle.sharing.specs.Sharing.{Shared}
 use Rattle.sharing.specs.Limits.{Limits}
+use Rattle.rules.specs.declared.tolerance.Perimeter.the-variants.{NorthB, NorthH, South}
+use Rattle.rules.specs.Formulas.{from2008}
+use Rattle.rules.specs.Tolerance.{thousandths}
 
 -- the claims vs can be shared at p / q, and this gives the shares ss, t in all, and nothing else
 pub record Gives (p q : ℕ) (vs ss : List ℤ) (t : ℤ) : Type 0 where
@@ -23,3 +26,11 @@ Thirds = Gives 100 3 (pos 1 ∷ pos 1 ∷ pos 1 ∷ []) (pos 34 ∷ pos 33 ∷ p
 -- half of minus one and minus one: rounded downward both are minus one, and one unit is lacking
 abbrev pub Halves : Type 0
 Halves = Gives 1 2 (negsuc 0 ∷ negsuc 0 ∷ []) (pos 0 ∷ negsuc 0 ∷ []) (negsuc 0)
+
+-- the standard tolerance of North H at 500,000 kWh is 150,000 kWh; at 50,000,000 that of South is 3,090,000 and that of North B 2,700,000
+abbrev pub Tolerances : Type 0
+Tolerances = (thousandths NorthH 500000 ≡ 1000 * 150000) × (thousandths South 50000000 ≡ 1000 * 3090000) × (thousandths NorthB 50000000 ≡ 1000 * 2700000)
+
+-- a reference of 2,500 and a hub of 6,000 cents give a buy price of 30,000 mills by the rule of 2008
+abbrev pub Buying : Type 0
+Buying = (s : ℕ) → from2008 2500 6000 s .buy ≡ 30000

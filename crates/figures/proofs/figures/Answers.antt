@@ -1,5 +1,6 @@
+use mathlib.Core.Path.{refl}
 use Rattle.figures.proofs.Shares.{positions, thirds, halves}
 use Rattle.figures.proofs.figures.Needs as need
 
 pub returns : need.returns
-returns c = record { positions = positions; thirds = thirds; halves = halves }
+returns c = record { positions = positions; thirds = thirds; halves = halves; tolerances = (refl, refl, refl); buying = λ s. refl }
