@@ -1,5 +1,2 @@
-mod Cuts
-mod Exits
 mod Keywords
 mod Listing
-mod Rows

@@ -14,8 +14,8 @@ use Rattle.desk.specs.declared.commands.Expected.{Expected}
 use Rattle.desk.specs.declared.commands.Expected.the-variants.{Text, Keyword as AnyKeyword, Arguments}
 use Rattle.desk.specs.declared.commands.Unread.{Unread}
 use Rattle.desk.specs.declared.commands.Unread.the-variants.{Memory, Unreadable}
-use Rattle.desk.specs.Words.{before, words}
-use Rattle.desk.specs.Fields.{Natural, Number, First, Each}
+use Rattle.lines.specs.Words.{before, words}
+use Rattle.lines.specs.Fields.{Natural, Number, First, Each}
 
 -- the word for each keyword
 abbrev pub spelled : Keyword → List ℕ

@@ -1,6 +1,3 @@
-pub mod Words
-pub mod Fields
-pub mod Readers
 pub mod Commands
 pub mod Answers
 pub mod Unreadable

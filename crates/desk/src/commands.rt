@@ -2,18 +2,18 @@
 ghost use mathlib.Core.Path.{_≡_};
 ghost use Rattle.std.specs.Options.{Cases as BySome};
 ghost use Rattle.std.specs.Results.{Cases};
-ghost use Rattle.desk.specs.Words.{texts};
-ghost use Rattle.desk.specs.Readers.{Reads};
+ghost use Rattle.lines.specs.Words.{texts};
+ghost use Rattle.lines.specs.Readers.{Reads};
 ghost use Rattle.desk.specs.Commands.{spelled, After, Says, Unsaid, Means, Unmeant};
 ghost use Rattle.desk.specs.declared.commands.Keyword.the-variants.{Share, Amount};
 ghost use Rattle.desk.specs.declared.commands.Unread.the-variants.{Memory};
-use crate::fields::Fault;
-use crate::fields::I64Field;
-use crate::fields::U64Field;
-use crate::fields::each;
-use crate::fields::first;
-use crate::words::split_words;
-use crate::words::uncommented;
+use lines::Fault;
+use lines::each;
+use lines::fields::I64Field;
+use lines::fields::U64Field;
+use lines::first;
+use lines::split_words;
+use lines::uncommented;
 use std::alloc::AllocError;
 use std::alloc::Global;
 

@@ -1,10 +1,8 @@
 //! The desk's lines: each is read into a command, and each answer is written as text.
 mod answers;
 mod commands;
-mod fields;
 mod figures;
 mod replies;
-mod words;
 
 pub use answers::Answer;
 pub use answers::answer_text;

@@ -3,8 +3,8 @@ use borrow.Author.Needs.{needs}
 use mir.Syntax.{w64}
 use mir.Val.{SFits}
 use Rattle.std.proofs.shelf.Signed.{toZ-ofZ}
-use Rattle.desk.proofs.Exits.{pass}
-use Rattle.desk.proofs.Rows.{begins, next, onto}
+use Rattle.lines.proofs.Exits.{pass}
+use Rattle.lines.proofs.Rows.{begins, next, onto}
 use Rattle.desk.proofs.commands.read_amount.Needs as need
 
 pub returns-in-Break-amount : need.returns-in-Break-amount

@@ -1,6 +1,6 @@
 use mathlib.Core.Path.{refl}
-use Rattle.desk.proofs.Exits.{pass}
-use Rattle.desk.proofs.Rows.{begins, next, onto}
+use Rattle.lines.proofs.Exits.{pass}
+use Rattle.lines.proofs.Rows.{begins, next, onto}
 use Rattle.desk.proofs.commands.read_share.Needs as need
 
 pub returns-in-Break-p : need.returns-in-Break-p

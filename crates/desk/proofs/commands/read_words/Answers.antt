@@ -1,6 +1,6 @@
 use mathlib.Core.Path.{refl}
 use Rattle.std.proofs.shelf.Lists.{nil-from-length}
-use Rattle.desk.specs.Words.{texts}
+use Rattle.lines.specs.Words.{texts}
 use Rattle.desk.proofs.Keywords.{unsaid}
 use Rattle.desk.proofs.commands.read_words.Needs as need
 

@@ -23,7 +23,7 @@ use Rattle.std.proofs.shelf.Elements.{all-from-getD}
 use Rattle.std.proofs.shelf.Patterns.{drop-at-char}
 use Rattle.std.proofs.shelf.Text.{width-bounds, without-byte}
 use Rattle.std.proofs.str.Laws.{order}
-use Rattle.desk.specs.Words.{blank, before, kept, words-after, words, texts}
+use Rattle.lines.specs.Words.{blank, before, kept, words-after, words, texts}
 
 -- no byte of bs passes t
 abbrev pub Free : (ℕ → Bool) → List ℕ → Type 0

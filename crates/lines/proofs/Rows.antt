@@ -6,8 +6,8 @@ use native.Mathlib.Omega.{arith}
 use denote.Ref.{RefT}
 use lib.ListN.{length, getD, take}
 use Rattle.std.proofs.shelf.Lists.{map-more, take-all}
-use Rattle.desk.specs.Words.{texts}
-use Rattle.desk.specs.Fields.{First, Each}
+use Rattle.lines.specs.Words.{texts}
+use Rattle.lines.specs.Fields.{First, Each}
 
 module _ {X : Type 0} {R : List ℕ → X → Type 0} where
   pub begins : {x : X} {P : List (List ℕ) → Type 0} {ws : List (List ℕ)} → First R x P ws → First R x (λ _. Unit {0}) ws

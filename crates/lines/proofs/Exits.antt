@@ -3,9 +3,9 @@ use mathlib.Core.Path.{_≡_, sym, subst}
 use Rattle.std.specs.Results.{ErrBy}
 use Rattle.std.specs.declared.result.Result.{Result}
 use Rattle.std.specs.declared.result.Result.the-variants.{Ok, Err}
-use Rattle.desk.specs.Readers.{Reads}
-use Rattle.desk.specs.declared.fields.Fault.{Fault}
-use Rattle.desk.specs.declared.fields.Fault.the-variants.{Memory, Unreadable}
+use Rattle.lines.specs.Readers.{Reads}
+use Rattle.lines.specs.declared.fields.Fault.{Fault}
+use Rattle.lines.specs.declared.fields.Fault.the-variants.{Memory, Unreadable}
 
 -- where a right y has a right part x
 pub pass : {X Y : Type 0} (P : X → Type 0) (Q : Y → Type 0) (e : Fault) (r : Result Y Fault) → ErrBy r (λ d. d ≡ e) → Reads P (Err e) → ((y : Y) → Q y → (x : X) × P x) → Reads Q r

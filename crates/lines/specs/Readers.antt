@@ -5,10 +5,10 @@ use Prim.Native.Nat.{ℕ}
 use denote.Ref.{RefT}
 use Rattle.std.specs.declared.result.Result.{Result}
 use Rattle.std.specs.declared.result.Result.the-variants.{Ok, Err}
-use Rattle.desk.specs.declared.fields.Fault.{Fault}
-use Rattle.desk.specs.declared.fields.Fault.the-variants.{Memory, Unreadable}
-use Rattle.desk.specs.Fields.{First}
-use Rattle.desk.specs.Words.{texts}
+use Rattle.lines.specs.declared.fields.Fault.{Fault}
+use Rattle.lines.specs.declared.fields.Fault.the-variants.{Memory, Unreadable}
+use Rattle.lines.specs.Fields.{First}
+use Rattle.lines.specs.Words.{texts}
 
 -- a right value, or that no value is right; but where memory failed nothing is said
 abbrev pub Reads : {X : Type 0} → (X → Type 0) → Result X Fault → Type 0

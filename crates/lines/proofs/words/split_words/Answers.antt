@@ -3,9 +3,9 @@ use mathlib.Core.List.{_++_}
 use borrow.Author.Needs.{needs}
 use Rattle.std.proofs.shelf.Results.{cases-at-some, cases-at-none}
 use Rattle.std.specs.Of.Vec.{vec-items}
-use Rattle.desk.specs.Words.{texts}
-use Rattle.desk.proofs.Cuts.{split-words, turn}
-use Rattle.desk.proofs.words.split_words.Needs as need
+use Rattle.lines.specs.Words.{texts}
+use Rattle.lines.proofs.Cuts.{split-words, turn}
+use Rattle.lines.proofs.words.split_words.Needs as need
 
 pub loop-word-less : need.loop-word-less
 loop-word-less c = cases-at-some _ _ _ (c .in-Some .is) (split-words (c .loop-word .rest .now) (c .split-once .result) (c .split-once .ensures .cases)) .1

@@ -4,10 +4,10 @@ use lib.ListN.{length}
 use Rattle.std.proofs.shelf.Lists.{nil-from-length}
 use Rattle.std.proofs.shelf.Results.{err-from-errBy}
 use Rattle.std.specs.declared.result.Result.the-variants.{Err}
-use Rattle.desk.specs.Words.{texts}
-use Rattle.desk.proofs.Exits.{pass}
-use Rattle.desk.proofs.Rows.{head}
-use Rattle.desk.proofs.fields.first.Needs as need
+use Rattle.lines.specs.Words.{texts}
+use Rattle.lines.proofs.Exits.{pass}
+use Rattle.lines.proofs.Rows.{head}
+use Rattle.lines.proofs.fields.first.Needs as need
 
 pub returns-in-rest : need.returns-in-rest
 returns-in-rest g c x h = omega (arith, ap length (h .split), ap (λ ws. length (texts ws)) (nil-from-length _ (c .in-rest .ensures tt .cases)))

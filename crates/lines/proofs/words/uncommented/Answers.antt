@@ -2,9 +2,9 @@ use mathlib.Core.Path.{sym, ap, _∙_}
 use native.Mathlib.Omega.{arith}
 use Rattle.std.proofs.shelf.Patterns.{split-parts}
 use Rattle.std.proofs.shelf.Results.{cases-at-some, cases-at-none}
-use Rattle.desk.specs.Words.{before}
-use Rattle.desk.proofs.Cuts.{lacking, before-all, before-cut}
-use Rattle.desk.proofs.words.uncommented.Needs as need
+use Rattle.lines.specs.Words.{before}
+use Rattle.lines.proofs.Cuts.{lacking, before-all, before-cut}
+use Rattle.lines.proofs.words.uncommented.Needs as need
 
 pub returns-in-Some : need.returns-in-Some
 returns-in-Some c =

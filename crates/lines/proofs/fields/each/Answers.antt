@@ -1,6 +1,6 @@
-use Rattle.desk.proofs.Exits.{pass}
-use Rattle.desk.proofs.Rows.{each-at, each-more, each-all}
-use Rattle.desk.proofs.fields.each.Needs as need
+use Rattle.lines.proofs.Exits.{pass}
+use Rattle.lines.proofs.Rows.{each-at, each-more, each-all}
+use Rattle.lines.proofs.fields.each.Needs as need
 
 pub returns-in-Break-read : need.returns-in-Break-read
 returns-in-Break-read g c =

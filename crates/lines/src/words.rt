@@ -3,7 +3,7 @@ ghost use mathlib.Core.Path.{_≡_};
 ghost use mathlib.Core.List.{_++_};
 ghost use Rattle.std.specs.Of.Vec.{vec-items};
 ghost use Rattle.std.specs.Vec.{made};
-ghost use Rattle.desk.specs.Words.{before, kept, texts, words};
+ghost use Rattle.lines.specs.Words.{before, kept, texts, words};
 use std::alloc::AllocError;
 use std::alloc::Global;
 use std::alloc::Refused;
