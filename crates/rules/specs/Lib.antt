@@ -1,5 +1,5 @@
 pub mod Bands
 pub mod Prices
-pub mod Tolerance
 pub mod Monthly
 pub mod Formulas
+pub mod Exact

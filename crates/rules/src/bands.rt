@@ -18,4 +18,5 @@ pub struct Bands {
     ghost limit: { «carry_limit» ≤ 100000000 },
 }
 
+pub mod exact;
 pub mod parts;

@@ -5,7 +5,6 @@ pub mod day_price;
 pub mod monthly;
 pub mod prices;
 pub mod rules;
-pub mod tolerance;
 
 pub use bands::Bands;
 pub use capacity::no_capacity;
@@ -16,4 +15,3 @@ pub use rules::BandRule;
 pub use rules::Either;
 pub use rules::Fixed;
 pub use rules::PriceRule;
-pub use tolerance::Perimeter;

@@ -2,8 +2,8 @@
 use mathlib.Core.List.{List, [], _∷_}
 use Prim.Native.Nat.{ℕ, _+_, _-_, _*_, _<_, _≤_, min}
 use lib.ListN.{getD}
-use Rattle.rules.specs.declared.tolerance.Perimeter.{Perimeter}
-use Rattle.rules.specs.declared.tolerance.Perimeter.the-variants.{NorthB, NorthH, South}
+use Rattle.terms.specs.declared.tolerance.Perimeter.{Perimeter}
+use Rattle.terms.specs.declared.tolerance.Perimeter.the-variants.{NorthB, NorthH, South}
 
 -- the edges in kWh a day, from nothing to the largest base
 abbrev pub edges : List ℕ

@@ -3,7 +3,7 @@ ghost use mathlib.Core.Path.{_≡_};
 ghost use Prim.Native.Nat.{_-_, _<_, _≤_, min};
 ghost use Rattle.std.specs.Results.{Cases};
 ghost use Rattle.kinds.specs.declared.refusals.Refusal.the-variants.{TermOutOfRange};
-ghost use Rattle.rules.specs.Tolerance.{ratesOf, thousandths, Ends};
+ghost use Rattle.terms.specs.Tolerance.{ratesOf, thousandths, Ends};
 use kinds::Refusal;
 
 /// A balancing perimeter.

@@ -1,0 +1,5 @@
+pub mod Tolerance
+pub mod Months
+pub mod Base
+pub mod Errors
+pub mod Schedule

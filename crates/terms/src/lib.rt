@@ -1,0 +1,9 @@
+//! The rules that the operator's terms describe, built from their terms and series.
+pub mod base;
+pub mod errors;
+pub mod months;
+pub mod schedule;
+pub mod tolerance;
+
+pub use errors::RuleError;
+pub use tolerance::Perimeter;
