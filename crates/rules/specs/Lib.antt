@@ -3,3 +3,4 @@ pub mod Prices
 pub mod Monthly
 pub mod Formulas
 pub mod Exact
+pub mod Amounts

@@ -1,4 +1,5 @@
 //! Band rules and price rules, known by what they answer.
+pub mod amounts;
 pub mod bands;
 pub mod capacity;
 pub mod day_price;

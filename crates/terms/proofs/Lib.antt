@@ -1,3 +1,5 @@
 -- The lemmas of this crate.
 pub mod Days
 pub mod Tolerances
+pub mod EachDay
+pub mod Exits

@@ -2,7 +2,9 @@
 pub mod base;
 pub mod errors;
 pub mod months;
+pub mod price_rules;
 pub mod schedule;
+pub mod series;
 pub mod tolerance;
 
 pub use errors::RuleError;
