@@ -1,4 +1,6 @@
 //! Commands: how the words of a line are read into one, and what is said to it.
+#![tactic(auto)]
+
 pub mod dates;
 pub mod keys;
 pub mod refusals;

@@ -1,4 +1,6 @@
 //! The desk's lines: each is read into a command, and each answer is written as text.
+#![tactic(auto)]
+
 mod answers;
 mod commands;
 mod figures;

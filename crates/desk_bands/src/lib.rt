@@ -1,4 +1,6 @@
 //! The desk's lines on bands: `base`, `tolerance`, `bands` and `ask bands`.
+#![tactic(auto)]
+
 pub mod asking;
 pub mod bases;
 pub mod keywords;

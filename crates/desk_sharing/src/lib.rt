@@ -1,4 +1,6 @@
 //! The desk's lines that share: `share` and `amount`.
+#![tactic(auto)]
+
 pub mod figures;
 pub mod keywords;
 pub mod sharings;

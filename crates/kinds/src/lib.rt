@@ -1,4 +1,6 @@
 //! The kinds of number, the calendar date and the refusals that the whole ledger speaks of.
+#![tactic(auto)]
+
 pub mod calendar;
 pub mod dates;
 pub mod quantities;

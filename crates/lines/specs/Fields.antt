@@ -1,15 +1,23 @@
 -- The values that words write.
 use Rattle.std.specs.Prelude.{◌≡◌, ℕ, ◌^◌, ◌<◌, List, [], ◌∷◌, ℤ, codes, Option, MatchOption, FitsSigned}
-use Rattle.std.specs.Int.{Width}
+use Rattle.std.specs.Int.{Width, w64}
 use Rattle.std.specs.Str.Parse.{IsNumeral, digits_value, without_leading_plus, without_leading_sign, signed_digits_value}
 
--- decimal digits after a plus or none, which this many bits hold
-abbrev pub Natural : ℕ → List ℕ → ℕ → Type 0
-Natural bits w n = (IsNumeral 10 (without_leading_plus w) × (digits_value 10 (without_leading_plus w) < 2 ^ bits)) × (n ≡ digits_value 10 (without_leading_plus w))
+-- decimal digits after a plus or none, below 2 ^ 64
+abbrev pub Natural : List ℕ → ℕ → Type 0
+Natural w n = (IsNumeral 10 (without_leading_plus w) × (digits_value 10 (without_leading_plus w) < 2 ^ 64)) × (n ≡ digits_value 10 (without_leading_plus w))
 
--- decimal digits after a sign or none, which a signed number of this width holds
-abbrev pub Number : Width → List ℕ → ℤ → Type 0
-Number width w z = (IsNumeral 10 (without_leading_sign w) × FitsSigned width (signed_digits_value 10 w)) × (z ≡ signed_digits_value 10 w)
+-- the same, below another power of two
+abbrev pub NaturalBelow : ℕ → List ℕ → ℕ → Type 0
+NaturalBelow bits w n = (IsNumeral 10 (without_leading_plus w) × (digits_value 10 (without_leading_plus w) < 2 ^ bits)) × (n ≡ digits_value 10 (without_leading_plus w))
+
+-- decimal digits after a sign or none, that an i64 holds
+abbrev pub Number : List ℕ → ℤ → Type 0
+Number w z = (IsNumeral 10 (without_leading_sign w) × FitsSigned w64 (signed_digits_value 10 w)) × (z ≡ signed_digits_value 10 w)
+
+-- the same, that a signed number of another width holds
+abbrev pub NumberWithin : Width → List ℕ → ℤ → Type 0
+NumberWithin width w z = (IsNumeral 10 (without_leading_sign w) × FitsSigned width (signed_digits_value 10 w)) × (z ≡ signed_digits_value 10 w)
 
 -- a value, or a dash where there is none
 abbrev pub Missing : {X : Type 0} → (List ℕ → X → Type 0) → List ℕ → Option X → Type 0

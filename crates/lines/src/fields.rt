@@ -1,8 +1,8 @@
 //! The values that words write.
 ghost use Rattle.std.specs.Prelude.{◌≡◌, ℕ, List};
 ghost use Rattle.lines.specs.Words.{texts};
-ghost use Rattle.lines.specs.Fields.{Natural, Number, Missing, Each};
-ghost use Rattle.std.specs.Int.{w16, w64};
+ghost use Rattle.lines.specs.Fields.{Natural, NaturalBelow, Number, NumberWithin, Missing, Each};
+ghost use Rattle.std.specs.Int.{w16};
 ghost use Rattle.lines.specs.Readers.{Reads, Splits};
 ghost use Rattle.lines.specs.declared.fields.Fault.TheVariants.{Memory, Unreadable};
 
@@ -49,7 +49,7 @@ pub trait Field: Sized {
 }
 
 impl Field for u8 {
-    ghost writes = { Natural 8 };
+    ghost writes = { NaturalBelow 8 };
 
     fn read(word: &str) -> Result<u8, Fault> {
         Ok(word.parse::<u8>()?)
@@ -57,7 +57,7 @@ impl Field for u8 {
 }
 
 impl Field for u32 {
-    ghost writes = { Natural 32 };
+    ghost writes = { NaturalBelow 32 };
 
     fn read(word: &str) -> Result<u32, Fault> {
         Ok(word.parse::<u32>()?)
@@ -65,7 +65,7 @@ impl Field for u32 {
 }
 
 impl Field for u64 {
-    ghost writes = { Natural 64 };
+    ghost writes = { Natural };
 
     fn read(word: &str) -> Result<u64, Fault> {
         Ok(word.parse::<u64>()?)
@@ -73,7 +73,7 @@ impl Field for u64 {
 }
 
 impl Field for i16 {
-    ghost writes = { Number w16 };
+    ghost writes = { NumberWithin w16 };
 
     fn read(word: &str) -> Result<i16, Fault> {
         Ok(word.parse::<i16>()?)
@@ -81,7 +81,7 @@ impl Field for i16 {
 }
 
 impl Field for i64 {
-    ghost writes = { Number w64 };
+    ghost writes = { Number };
 
     fn read(word: &str) -> Result<i64, Fault> {
         Ok(word.parse::<i64>()?)
@@ -102,7 +102,7 @@ impl<T: Field> Field for Option<T> {
 
 /// The value of the first word, and the words after it.
 pub fn first<'a, 'b, T: Field>(words: &'a [&'b str]) -> Result<(T, &'a [&'b str]), Fault>
-    ensures { Splits writes (texts words.now) result }
+    ensures { Splits T.writes (texts words.now) result }
 {
     let Some((word, rest)) = words.split_first() else {
         return Err(Fault::Unreadable);
@@ -113,7 +113,7 @@ pub fn first<'a, 'b, T: Field>(words: &'a [&'b str]) -> Result<(T, &'a [&'b str]
 
 /// The value of each word.
 pub fn each<T: Field + Drop>(heap: Global, words: &[&str]) -> Result<Vec<T>, Fault>
-    ensures { Reads (λ v. Each writes (texts words.now) v.items) result }
+    ensures { Reads (λ v. Each T.writes (texts words.now) v.items) result }
 {
     let mut out = Vec::new(heap);
     for word in words {

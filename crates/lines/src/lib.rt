@@ -1,4 +1,6 @@
 //! The words of a line, and the values that they write.
+#![tactic(auto)]
+
 pub mod fields;
 pub mod words;
 

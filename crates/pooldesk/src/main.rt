@@ -1,4 +1,6 @@
 //! Answers each line of standard input as it comes.
+#![tactic(auto)]
+
 use std::io::{BufRead, BufReader};
 
 fn run(rt: &HostRuntime) -> anyhow::Result<()> {

@@ -1,4 +1,6 @@
 //! Band rules and price rules, known by what they answer.
+#![tactic(auto)]
+
 pub mod amounts;
 pub mod bands;
 pub mod capacity;

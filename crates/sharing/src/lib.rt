@@ -1,4 +1,6 @@
 //! Shares out a part of a sum in whole numbers that add up.
+#![tactic(auto)]
+
 pub mod claims;
 mod dealing;
 mod limits;

@@ -22,8 +22,8 @@ pub fn read<C: Claim>(claims: &[C], rows: &mut [Row]) -> Option<u64>
     requires same { length rows.old ≡ length claims.now }
     requires few { length claims.now ≤ 40 }
     ensures { MatchOption result
-        (Beyond (map told claims.now))
-        (λ n. Small (map told claims.now) × (n ≡ sizes (map told claims.now)) × (values rows.new ≡ map told claims.now)) }
+        (Beyond (map C.told claims.now))
+        (λ n. Small (map C.told claims.now) × (n ≡ sizes (map C.told claims.now)) × (values rows.new ≡ map C.told claims.now)) }
 {
     let mut sum = 0;
     for i in 0..claims.len() {
@@ -63,7 +63,7 @@ pub fn sign_by(rows: &mut [Row], amount: i64)
 /// Has each claim take its share.
 pub fn give<C: Claim>(claims: &mut [C], rows: &[Row])
     requires { length rows.now ≡ length claims.old }
-    ensures { Takes taking (at (shares rows.now)) claims.old claims.new }
+    ensures { Takes C.taking (at (shares rows.now)) claims.old claims.new }
 {
     for i in 0..claims.len() {
         claims[i].take(rows[i].share);

@@ -23,8 +23,8 @@ fn share_over<C: Claim>(claims: &mut [C], rows: &mut [Row], p: u64, q: u64) -> R
     requires same { length rows.old ≡ length claims.old }
     requires few { length claims.old ≤ 40 }
     ensures { MatchResult result
-        (λ t. Given told held taking p q claims.old claims.new t)
-        (λ e. Breaks p q (map told claims.old) e × (claims.new ≡ claims.old)) }
+        (λ t. Given C.told C.held C.taking p q claims.old claims.new t)
+        (λ e. Breaks p q (map C.told claims.old) e × (claims.new ≡ claims.old)) }
 {
     let Some(sum) = read(claims, rows) else {
         return Err(Refusal::ClaimTooLarge);
@@ -40,8 +40,8 @@ fn share_over<C: Claim>(claims: &mut [C], rows: &mut [Row], p: u64, q: u64) -> R
 /// the largest remainders, of equal ones to the lower claim number. Refused, it changes no claim.
 pub fn share<C: Claim>(claims: &mut [C], p: u64, q: u64) -> Result<i64, Refusal>
     ensures shared { MatchResult result
-        (λ t. Given told held taking p q claims.old claims.new t)
-        (λ e. Breaks p q (map told claims.old) e × (claims.new ≡ claims.old)) }
+        (λ t. Given C.told C.held C.taking p q claims.old claims.new t)
+        (λ e. Breaks p q (map C.told claims.old) e × (claims.new ≡ claims.old)) }
     ensures exact { ExactLimits }
     ensures one_way { OneWay }
 {
@@ -62,8 +62,8 @@ fn share_amount_over<C: Claim>(
     requires same { length rows.old ≡ length claims.old }
     requires few { length claims.old ≤ 40 }
     ensures { MatchResult result
-        (λ _. Allotted told held taking amount claims.old claims.new)
-        (λ e. Unsharable amount (map told claims.old) e × (claims.new ≡ claims.old)) }
+        (λ _. Allotted C.told C.held C.taking amount claims.old claims.new)
+        (λ e. Unsharable amount (map C.told claims.old) e × (claims.new ≡ claims.old)) }
 {
     let Some(sum) = read(claims, rows) else {
         return Err(Refusal::ClaimTooLarge);
@@ -85,8 +85,8 @@ fn share_amount_over<C: Claim>(
 /// the amount. Over claims that are all nil only the amount nil is shared. Refused, it changes no claim.
 pub fn share_amount<C: Claim>(claims: &mut [C], amount: i64) -> Result<(), Refusal>
     ensures shared { MatchResult result
-        (λ _. Allotted told held taking amount claims.old claims.new)
-        (λ e. Unsharable amount (map told claims.old) e × (claims.new ≡ claims.old)) }
+        (λ _. Allotted C.told C.held C.taking amount claims.old claims.new)
+        (λ e. Unsharable amount (map C.told claims.old) e × (claims.new ≡ claims.old)) }
     ensures exact { ExactAmounts }
     ensures fair { Fairly }
     ensures one_over { OneOver }

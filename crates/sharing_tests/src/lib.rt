@@ -1,4 +1,6 @@
 //! Examples of sharing: halves, the ends of the lists, and each limit at its edge and one past it.
+#![tactic(auto)]
+
 #[cfg(test)]
 mod tests {
     use kinds::{Cents, Energy, Metered, Refusal};

@@ -1,4 +1,6 @@
 //! The rules that the operator's terms describe, built from their terms and series.
+#![tactic(auto)]
+
 pub mod base;
 pub mod errors;
 pub mod months;

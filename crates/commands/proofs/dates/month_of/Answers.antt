@@ -8,14 +8,14 @@ returns-then-bytes-ne7 c m h = c.if-bytes-ne7.true (month_bytes _ m h).long
 pub returns-then-bytes-ne45 : goal.returns-then-bytes-ne45
 returns-then-bytes-ne45 c m h = c.if-bytes-ne45.true (month_bytes _ m h).dash
 
-pub returns-in-err-century : goal.returns-in-err-century
-returns-in-err-century c = pass _ _ _ c.from-residual.result c.from-residual.ensures.1 c.in-err-century.ensures (λ m h. (_, (month_bytes _ m h).century))
+pub returns-in_err-century : goal.returns-in_err-century
+returns-in_err-century c = pass _ _ _ c.from_residual.result c.from_residual.ensures.1 c.in_err-century.ensures (λ m h. (_, (month_bytes _ m h).century))
 
-pub returns-in-err-year : goal.returns-in-err-year
-returns-in-err-year c = pass _ _ _ c.from-residual-in-err-year.result c.from-residual-in-err-year.ensures.1 c.in-err-year.ensures (λ m h. (_, (month_bytes _ m h).year))
+pub returns-in_err-year : goal.returns-in_err-year
+returns-in_err-year c = pass _ _ _ c.from_residual-in_err-year.result c.from_residual-in_err-year.ensures.1 c.in_err-year.ensures (λ m h. (_, (month_bytes _ m h).year))
 
-pub returns-in-err-month : goal.returns-in-err-month
-returns-in-err-month c = pass _ _ _ c.from-residual-in-err-month.result c.from-residual-in-err-month.ensures.1 c.in-err-month.ensures (λ m h. (_, (month_bytes _ m h).month))
+pub returns-in_err-month : goal.returns-in_err-month
+returns-in_err-month c = pass _ _ _ c.from_residual-in_err-month.result c.from_residual-in_err-month.ensures.1 c.in_err-month.ensures (λ m h. (_, (month_bytes _ m h).month))
 
 pub returns : goal.returns
-returns c = rw (c.from.ensures, c.from-2.ensures) (month_back _ _ _ _ c.if-bytes-ne7.false c.if-bytes-ne45.false c.in-ok-century.ensures c.in-ok-year.ensures c.in-ok-month.ensures)
+returns c = rw (c.from.ensures, c.from-2.ensures) (month_back _ _ _ _ c.if-bytes-ne7.false c.if-bytes-ne45.false c.in_ok-century.ensures c.in_ok-year.ensures c.in_ok-month.ensures)

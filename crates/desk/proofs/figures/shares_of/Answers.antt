@@ -13,7 +13,7 @@ loop-figure-preserved c =
     let i = c.loop-figure.figure-index in
     let d : Figure = record { value = pos 0; share = pos 0 } in
     let fits : SFits w64 (get_or fs i d).share = search rules in
-    let pushed = chosen _ _ _ _ c.push.ensures.items (ap is_ok c.in-ok-push.was) in
+    let pushed = chosen _ _ _ _ c.push.ensures.items (ap is_ok c.in_ok-push.was) in
     pushed ∙ ap (λ l. l ++ to_z w64 (of_z w64 (get_or fs i d).share) ∷ []) c.loop-figure.invariant ∙ ap (λ z. map held_by (take i fs) ++ z ∷ []) (to_z-of_z w64 _ fits)
     ∙ sym (map-append held_by (take i fs) (get_or fs i d ∷ [])) ∙ ap (map held_by) (sym (take_more fs i d c.loop-figure-test.true))
 

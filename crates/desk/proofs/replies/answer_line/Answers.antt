@@ -9,14 +9,14 @@ use Rattle.desk.proofs.replies.answer_line.Goals as goal
 said : (n : ℕ) (line text bytes : List ℕ) → bytes ≡ text → Responds n line text → Responds n line bytes
 said n line text bytes e h = subst (λ b. Responds n line b) (sym e) h
 
-pub returns-in-default : goal.returns-in-default
-returns-in-default c = IfOk-weaker c.unread-text.result _ _ (λ s e. said _ _ _ _ e (no_text c.in-default.ensures.cases.0)) c.unread-text.ensures
+pub returns-in_default : goal.returns-in_default
+returns-in_default c = IfOk-weaker c.unread_text.result _ _ (λ s e. said _ _ _ _ e (no_text c.in_default.ensures.cases.0)) c.unread_text.ensures
 
-pub returns-in-ok-answer : goal.returns-in-ok-answer
-returns-in-ok-answer c =
+pub returns-in_ok-answer : goal.returns-in_ok-answer
+returns-in_ok-answer c =
     let text = c.in-Ok.ensures.cases in
-    let means : Means c.args.line.now c.in-Ok-read-line.command = subst (λ l. Means l c.in-Ok-read-line.command) text.0 c.in-Ok-read-line.ensures in
-    IfOk-weaker c.answer-text.result _ _ (λ s e. said _ _ _ _ e (answer text.1 c.in-Ok-read-line.command means c.in-ok-answer.answer c.in-ok-answer.ensures)) c.answer-text.ensures
+    let means : Means c.args.line.now c.in-Ok-read_line.command = subst (λ l. Means l c.in-Ok-read_line.command) text.0 c.in-Ok-read_line.ensures in
+    IfOk-weaker c.answer_text.result _ _ (λ s e. said _ _ _ _ e (answer text.1 c.in-Ok-read_line.command means c.in_ok-answer.answer c.in_ok-answer.ensures)) c.answer_text.ensures
 
 pub returns-in-Unreadable : goal.returns-in-Unreadable
 returns-in-Unreadable c =

@@ -11,7 +11,7 @@ loop-value-preserved c =
     let vs = c.args.values.now in
     let i = c.loop-value.value-index in
     let fits : SFits w64 (get_or vs i (pos 0)) = search rules in
-    let pushed = chosen _ _ _ _ c.push.ensures.items (ap is_ok c.in-ok-push.was) in
+    let pushed = chosen _ _ _ _ c.push.ensures.items (ap is_ok c.in_ok-push.was) in
     ap (map told_by) pushed ∙ map-append told_by (vec_items c.loop-value.figures) _
     ∙ ap (λ l. l ++ to_z w64 (of_z w64 (get_or vs i (pos 0))) ∷ []) c.loop-value.invariant ∙ ap (λ z. take i vs ++ z ∷ []) (to_z-of_z w64 _ fits) ∙ sym (take_more vs i (pos 0) c.loop-value-test.true)
 

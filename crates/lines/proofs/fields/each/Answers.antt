@@ -2,13 +2,13 @@ use Rattle.lines.proofs.Exits.{pass}
 use Rattle.lines.proofs.Rows.{each_at, each_more, each_all}
 use Rattle.lines.proofs.fields.each.Goals as goal
 
-pub returns-in-err-read : goal.returns-in-err-read
-returns-in-err-read g c =
-    pass _ _ _ c.from-residual.result c.from-residual.ensures.1 c.in-err-read.ensures (λ v h. each_at _ c.args.words.now _ c.loop-word.word-index _ c.loop-word-test.true h)
+pub returns-in_err-read : goal.returns-in_err-read
+returns-in_err-read g c =
+    pass _ _ _ c.from_residual.result c.from_residual.ensures.1 c.in_err-read.ensures (λ v h. each_at _ c.args.words.now _ c.loop-word.word-index _ c.loop-word-test.true h)
 
 pub loop-word-preserved : goal.loop-word-preserved
 loop-word-preserved g c =
-    rw c.in-ok-push.ensures.items (each_more _ c.args.words.now _ c.loop-word.word-index _ _ c.loop-word-test.true c.loop-word.invariant c.in-ok-read.ensures)
+    rw c.in_ok-push.ensures.items (each_more _ c.args.words.now _ c.loop-word.word-index _ _ c.loop-word-test.true c.loop-word.invariant c.in_ok-read.ensures)
 
 pub returns : goal.returns
 returns g c = each_all _ c.args.words.now _ c.loop-word.word-index c.loop-word-test.false c.loop-word.invariant

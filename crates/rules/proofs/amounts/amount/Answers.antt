@@ -36,8 +36,8 @@ module _ (m b n : ℕ) (e : ℤ) (fits : SFits w64 e) (size : b ≡ nat_abs (to_
 
 pub returns-then-energy-lt0 : goal.returns-then-energy-lt0
 returns-then-energy-lt0 c =
-    charged _ c.unsigned-abs.result _ c.args.energy.0 (search rules) c.unsigned-abs.ensures.value c.cents-of-cents.ensures.nearest c.cents-of-cents.ensures.most (grind (arith, ints))
+    charged _ c.unsigned_abs.result _ c.args.energy.0 (search rules) c.unsigned_abs.ensures.value c.cents_of-cents.ensures.nearest c.cents_of-cents.ensures.most (grind (arith, ints))
 
 pub returns-else-energy-lt0 : goal.returns-else-energy-lt0
 returns-else-energy-lt0 c =
-    credited _ c.unsigned-abs.result _ c.args.energy.0 (search rules) c.unsigned-abs.ensures.value c.cents-of-cents.ensures.nearest c.cents-of-cents.ensures.most (grind (arith, ints))
+    credited _ c.unsigned_abs.result _ c.args.energy.0 (search rules) c.unsigned_abs.ensures.value c.cents_of-cents.ensures.nearest c.cents_of-cents.ensures.most (grind (arith, ints))

@@ -11,32 +11,32 @@ use Rattle.sharing.proofs.Dealt.{dealt}
 use Rattle.sharing.proofs.dealing.deal.Goals as goal
 use Rattle.sharing.proofs.dealing.deal.Goals.{then-lacking-gt0, else-lacking-gt0}
 
-pub overflow-mul-lacking : goal.overflow-mul-lacking
-overflow-mul-lacking c =
+pub overflow_mul-lacking : goal.overflow_mul-lacking
+overflow_mul-lacking c =
     let n = length-map {A = Row} c.args.rows.now (λ r. r.value) in
-    omega (arith, c.divide-floor-sum.ensures.rest_sum, rests_within _ _ (values c.args.rows.now) c.requires (length c.args.rows.now) (omega arith))
+    omega (arith, c.divide-floor_sum.ensures.rest_sum, rests_within _ _ (values c.args.rows.now) c.requires (length c.args.rows.now) (omega arith))
 
-pub overflow-add-lacking : goal.overflow-add-lacking
-overflow-add-lacking c =
+pub overflow_add-lacking : goal.overflow_add-lacking
+overflow_add-lacking c =
     let n = length-map {A = Row} c.args.rows.now (λ r. r.value) in
-    omega (arith, c.requires.bottom, c.divide-floor-sum.ensures.rest_sum, rests_within _ _ (values c.args.rows.now) c.requires (length c.args.rows.now) (omega arith))
+    omega (arith, c.requires.bottom, c.divide-floor_sum.ensures.rest_sum, rests_within _ _ (values c.args.rows.now) c.requires (length c.args.rows.now) (omega arith))
 
-pub hand-out-requires : goal.hand-out-requires
-hand-out-requires c = λ k l.
+pub hand_out-requires : goal.hand_out-requires
+hand_out-requires c = λ k l.
     let n = length-map {A = Row} c.args.rows.now (λ r. r.value) in
-    let m = c.divide-floor-sum.auto.rows in
-    omega (arith, ap nat_abs (c.divide-floor-sum.ensures.shares k (omega arith)), floor_within _ _ (values c.args.rows.now) c.requires k (omega arith))
+    let m = c.divide-floor_sum.auto.rows in
+    omega (arith, ap nat_abs (c.divide-floor_sum.ensures.shares k (omega arith)), floor_within _ _ (values c.args.rows.now) c.requires k (omega arith))
 
-pub overflow-cast-result : goal.overflow-cast-result
-overflow-cast-result c =
+pub overflow_cast-result : goal.overflow_cast-result
+overflow_cast-result c =
     let n = length-map {A = Row} c.args.rows.now (λ r. r.value) in
     omega (
       arith,
       ints,
       c.requires.bottom,
-      c.divide-floor-sum.ensures.rest_sum,
+      c.divide-floor_sum.ensures.rest_sum,
       rests_within _ _ (values c.args.rows.now) c.requires (length c.args.rows.now) (omega arith),
-      div-le_self (2 * c.divide-floor-sum.result.1 + c.args.q) (2 * c.args.q),
+      div-le_self (2 * c.divide-floor_sum.result.1 + c.args.q) (2 * c.args.q),
     )
 
 -- the total that the code finds is the sum of the floors and what is lacking
@@ -44,47 +44,47 @@ total-is : (z s : ℤ) (r q k : ℕ) → z ≡ s → nat_abs s ≤ 9000000000000
     → (SFits w64 (to_z w64 (of_z w64 z) +ℤ to_z w64 k)) × (to_z w64 (of_z w64 (to_z w64 (of_z w64 z) +ℤ to_z w64 k)) ≡ s +ℤ pos k)
 total-is z s r q k e a b d f = (omega (arith, ints), omega (arith, ints))
 
-total_of : (c : goal.Joined-lacking-gt0) → let k = (2 * c.divide-floor-sum.result.1 + c.args.q) / (2 * c.args.q) in
-    (SFits w64 (to_z w64 (of_z w64 c.divide-floor-sum.result.0) +ℤ to_z w64 k))
-    × (to_z w64 (of_z w64 (to_z w64 (of_z w64 c.divide-floor-sum.result.0) +ℤ to_z w64 k)) ≡ sum_to (length c.args.rows.now) (floors c.args.p c.args.q (values c.args.rows.now)) +ℤ pos k)
+total_of : (c : goal.Joined-lacking-gt0) → let k = (2 * c.divide-floor_sum.result.1 + c.args.q) / (2 * c.args.q) in
+    (SFits w64 (to_z w64 (of_z w64 c.divide-floor_sum.result.0) +ℤ to_z w64 k))
+    × (to_z w64 (of_z w64 (to_z w64 (of_z w64 c.divide-floor_sum.result.0) +ℤ to_z w64 k)) ≡ sum_to (length c.args.rows.now) (floors c.args.p c.args.q (values c.args.rows.now)) +ℤ pos k)
 total_of c =
     let vs = values c.args.rows.now in
     let n = length-map {A = Row} c.args.rows.now (λ r. r.value) in
     let m = length c.args.rows.now in
-    total-is _ _ c.divide-floor-sum.result.1 c.args.q _ c.divide-floor-sum.ensures.floor-sum (floors_within _ _ vs c.requires m (omega arith))
-    (omega (arith, c.divide-floor-sum.ensures.rest_sum, rests_within _ _ vs c.requires m (omega arith))) c.requires.bottom
-    (div-le_self (2 * c.divide-floor-sum.result.1 + c.args.q) (2 * c.args.q))
+    total-is _ _ c.divide-floor_sum.result.1 c.args.q _ c.divide-floor_sum.ensures.floor_sum (floors_within _ _ vs c.requires m (omega arith))
+    (omega (arith, c.divide-floor_sum.ensures.rest_sum, rests_within _ _ vs c.requires m (omega arith))) c.requires.bottom
+    (div-le_self (2 * c.divide-floor_sum.result.1 + c.args.q) (2 * c.args.q))
 
-pub overflow-add-result : goal.overflow-add-result
-overflow-add-result c = (total_of c).0
+pub overflow_add-result : goal.overflow_add-result
+overflow_add-result c = (total_of c).0
 
 pub returns : goal.returns
 returns c =
     let p = c.args.p in
     let q = c.args.q in
     let rs = c.args.rows.now in
-    let ms = c.divide-floor-sum.new.rows in
+    let ms = c.divide-floor_sum.new.rows in
     let zs = c.if-lacking-gt0.rows in
     let vs = values rs in
-    let k = (2 * c.divide-floor-sum.result.1 + q) / (2 * q) in
+    let k = (2 * c.divide-floor_sum.result.1 + q) / (2 * q) in
     let n = length-map {A = Row} rs (λ r. r.value) in
-    let m = c.divide-floor-sum.auto.rows in
+    let m = c.divide-floor_sum.auto.rows in
     let both : (length zs ≡ length ms) × (values zs ≡ vs) × ((i : ℕ) → i < length vs → at (shares zs) i ≡ due_of (length ms) (at (shares ms)) (rest_at ms) k i) = elim c.if-lacking-gt0.branch [
       | then-lacking-gt0 w ↦ (
-        ap length w.rows-is ∙ w.hand-out.auto.rows,
-        ap values w.rows-is ∙ w.hand-out.ensures.values ∙ c.divide-floor-sum.ensures.values,
-        λ i l. ap (λ xs. at (shares xs) i) w.rows-is ∙ w.hand-out.ensures.shares i (omega arith),
+        ap length w.rows-is ∙ w.hand_out.auto.rows,
+        ap values w.rows-is ∙ w.hand_out.ensures.values ∙ c.divide-floor_sum.ensures.values,
+        λ i l. ap (λ xs. at (shares xs) i) w.rows-is ∙ w.hand_out.ensures.shares i (omega arith),
       )
       | else-lacking-gt0 w ↦ (
         ap length w.rows-is,
-        ap values w.rows-is ∙ c.divide-floor-sum.ensures.values,
+        ap values w.rows-is ∙ c.divide-floor_sum.ensures.values,
         λ i l. ap (λ xs. at (shares xs) i) w.rows-is ∙ due_none (length ms) (at (shares ms)) (rest_at ms) k i (omega (arith, w.if-lacking-gt0.false)),
       )
     ] in
     let long : length (shares zs) ≡ length vs = length-map {A = Row} zs (λ r. r.share) ∙ both.0 ∙ m ∙ sym n in
-    let lack : k ≡ (2 * total (length vs) (rests p q vs) + q) / (2 * q) = ap (λ (r : ℕ). (2 * r + q) / (2 * q)) (c.divide-floor-sum.ensures.rest_sum ∙ ap (λ (j : ℕ). total j (rests p q vs)) (sym n)) in
+    let lack : k ≡ (2 * total (length vs) (rests p q vs) + q) / (2 * q) = ap (λ (r : ℕ). (2 * r + q) / (2 * q)) (c.divide-floor_sum.ensures.rest_sum ∙ ap (λ (j : ℕ). total j (rests p q vs)) (sym n)) in
     let each : (i : ℕ) → i < length vs → at (shares zs) i ≡ due_of (length vs) (floors p q vs) (rests p q vs) k i = λ i l.
     both.2 i l ∙ ap (λ (j : ℕ). due_of j (at (shares ms)) (rest_at ms) k i) (m ∙ sym n)
-    ∙ due_same (length vs) (at (shares ms)) (floors p q vs) (rest_at ms) (rests p q vs) k i l (c.divide-floor-sum.ensures.shares i (omega arith)) (λ j o. c.divide-floor-sum.ensures.rests j (omega arith)) in
+    ∙ due_same (length vs) (at (shares ms)) (floors p q vs) (rest_at ms) (rests p q vs) k i l (c.divide-floor_sum.ensures.shares i (omega arith)) (λ j o. c.divide-floor_sum.ensures.rests j (omega arith)) in
     let t = (total_of c).1 ∙ ap (λ (j : ℕ). sum_to j (floors p q vs) +ℤ pos k) (sym n) in
     record { values = both.1; shared = rw t (dealt p q vs (shares zs) k c.requires.some long lack each) }

@@ -26,8 +26,8 @@ divided-floor-requires c =
       bottom = c.requires.bottom;
     }
 
-pub overflow-add-floor-sum : goal.overflow-add-floor-sum
-overflow-add-floor-sum c =
+pub overflow_add-floor_sum : goal.overflow_add-floor_sum
+overflow_add-floor_sum c =
     let p = c.args.p in
     let q = c.args.q in
     let vs = values c.args.rows.now in
@@ -44,8 +44,8 @@ overflow-add-floor-sum c =
       floors_within p q vs c.requires (i + 1) (omega arith),
     )
 
-pub overflow-add-rest-sum : goal.overflow-add-rest-sum
-overflow-add-rest-sum c =
+pub overflow_add-rest_sum : goal.overflow_add-rest_sum
+overflow_add-rest_sum c =
     let p = c.args.p in
     let q = c.args.q in
     let vs = values c.args.rows.now in

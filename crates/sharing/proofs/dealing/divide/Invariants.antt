@@ -10,5 +10,5 @@ invariant-loop-i l =
     (values l.rows ≡ vs)
     × ((k : ℕ) → k < l.i → at (shares l.rows) k ≡ floors l.p l.q vs k)
     × ((k : ℕ) → k < l.i → rest_at l.rows k ≡ rests l.p l.q vs k)
-    × (l.floor-sum ≡ sum_to l.i (floors l.p l.q vs))
-    × (l.rest-sum ≡ total l.i (rests l.p l.q vs))
+    × (l.floor_sum ≡ sum_to l.i (floors l.p l.q vs))
+    × (l.rest_sum ≡ total l.i (rests l.p l.q vs))

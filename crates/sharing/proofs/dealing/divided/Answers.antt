@@ -14,9 +14,9 @@ returns c =
     let is-v : to_z w64 (of_z w64 v) ≡ v = to_z-of_z w64 v c.ranges.v in
     let fits : SFits w64 (pos p *ℤ v) = omega (arith, ints, product_size p v) in
     let whole : to_z w64 (of_z w64 (to_z w64 p *ℤ to_z w64 (of_z w64 v))) ≡ pos p *ℤ v = rw (is-p, is-v) (to_z-of_z w64 (pos p *ℤ v) fits) in
-    let rest : to_z w64 (of_z w64 c.rem-euclid.result) ≡ int_rem_euclid (pos p *ℤ v) (pos q) =
-    to_z-of_z w64 _ (record { sfits = c.rem-euclid.type-inv }) ∙ c.rem-euclid.ensures.value ∙ rw (whole, is-q) in
+    let rest : to_z w64 (of_z w64 c.rem_euclid.result) ≡ int_rem_euclid (pos p *ℤ v) (pos q) =
+    to_z-of_z w64 _ (record { sfits = c.rem_euclid.type_inv }) ∙ c.rem_euclid.ensures.value ∙ rw (whole, is-q) in
     record {
-      floor = to_z-of_z w64 _ (record { sfits = c.div-euclid.type-inv }) ∙ c.div-euclid.ensures ∙ rw (whole, is-q);
+      floor = to_z-of_z w64 _ (record { sfits = c.div_euclid.type_inv }) ∙ c.div_euclid.ensures ∙ rw (whole, is-q);
       rest = ap nat_abs rest;
     }

@@ -13,8 +13,8 @@ use Rattle.sharing.proofs.dealing.hand_out.Goals as goal
 same_rank : (rs os : List Row) (i : ℕ) → length rs ≡ length os → remainders rs ≡ remainders os → rank_of (length rs) (rest_at rs) i ≡ rank_of (length os) (rest_at os) i
 same_rank rs os i e h = ap (λ n. rank_of n (rest_at rs) i) e ∙ ap (λ xs. rank_of (length os) (λ k. get_or xs k 0) i) h
 
-pub overflow-add-rows : goal.overflow-add-rows
-overflow-add-rows c =
+pub overflow_add-rows : goal.overflow_add-rows
+overflow_add-rows c =
     let i = c.loop-i.i in
     let own = row_at (λ r. r.share) c.loop-i.rows i (shares c.args.rows.now) (omega arith) (c.loop-i.invariant.3 i (omega arith)) (search rules) in
     omega (arith, ints, own, c.unit.ensures, bit_most (ltb (rank_of (length c.loop-i.rows) (rest_at c.loop-i.rows) i) c.args.lacking), c.requires i (omega arith))

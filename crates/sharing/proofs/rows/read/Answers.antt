@@ -12,19 +12,19 @@ returns-then-size-gt-MOST-CLAIMED g c =
     let f = g.C.Claim.told in
     let xs = c.args.claims.now in
     let i = c.loop-i.i in
-    let e = value_at f xs i _ _ c.value-value.type-inv c.value-value.ensures c.loop-i-test.true c.index-claims-i.is in
-    (i, omega (arith, length-map xs f), omega (arith, c.unsigned-abs-size.ensures.value, ap nat_abs e))
+    let e = value_at f xs i _ _ c.value-value.type_inv c.value-value.ensures c.loop-i-test.true c.index-claims-i.is in
+    (i, omega (arith, length-map xs f), omega (arith, c.unsigned_abs-size.ensures.value, ap nat_abs e))
 
-pub overflow-add-sum : goal.overflow-add-sum
-overflow-add-sum g c = omega (arith, total_most c.loop-i.i 10000000000 _ c.loop-i.invariant.2)
+pub overflow_add-sum : goal.overflow_add-sum
+overflow_add-sum g c = omega (arith, total_most c.loop-i.i 10000000000 _ c.loop-i.invariant.2)
 
 pub loop-i-preserved : goal.loop-i-preserved
 loop-i-preserved g c =
     let f = g.C.Claim.told in
     let xs = c.args.claims.now in
     let i = c.loop-i.i in
-    let e = value_at f xs i _ _ c.value-value.type-inv c.value-value.ensures c.loop-i-test.true c.index-claims-i.is in
-    let n = c.unsigned-abs-size.ensures.value ∙ ap nat_abs e in (
+    let e = value_at f xs i _ _ c.value-value.type_inv c.value-value.ensures c.loop-i-test.true c.index-claims-i.is in
+    let n = c.unsigned_abs-size.ensures.value ∙ ap nat_abs e in (
       omega arith,
       omega (arith, total_more (λ k. nat_abs (at (map f xs) k)) i, n),
       below_more _ _ c.loop-i.invariant.2 (omega (arith, n)),

@@ -9,8 +9,8 @@ use Rattle.sharing.proofs.Columns.{nil, at_map, row_at, column_more, column_rest
 use Rattle.sharing.proofs.Signs.{signed_nil, signed_below, signed_above}
 use Rattle.sharing.proofs.rows.sign_by.Goals as goal
 
-pub overflow-sub-rows : goal.overflow-sub-rows
-overflow-sub-rows c =
+pub overflow_sub-rows : goal.overflow_sub-rows
+overflow_sub-rows c =
     let i = c.loop-i.i in
     let own = row_at (λ r. r.share) c.loop-i.rows i (shares c.args.rows.now) (omega arith) (c.loop-i.invariant.1 i (omega arith)) (search rules) in
     omega (arith, ints, own, c.requires i)

@@ -9,4 +9,4 @@ pub returns-then-count-gt-MOST-CLAIMS : goal.returns-then-count-gt-MOST-CLAIMS
 returns-then-count-gt-MOST-CLAIMS g c = record { shared = (many (rw length-map c.if-count-gt-MOST-CLAIMS.true), refl); exact = exact_limits; one_way = one_way }
 
 pub returns : goal.returns
-returns g c = record { shared = c.share-over.ensures; exact = exact_limits; one_way = one_way }
+returns g c = record { shared = c.share_over.ensures; exact = exact_limits; one_way = one_way }

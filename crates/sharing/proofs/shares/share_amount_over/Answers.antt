@@ -12,8 +12,8 @@ use Rattle.sharing.proofs.Columns.{takes_held, takes_taken, shared_same}
 use Rattle.sharing.proofs.Amounts.{limits_sized, over_from, low_from}
 use Rattle.sharing.proofs.shares.share_amount_over.Goals as goal
 
-pub returns-in-default : goal.returns-in-default
-returns-in-default g c = (weights ClaimTooLarge (large (rw length-map c.requires.few) c.in-default.ensures), refl)
+pub returns-in_default : goal.returns-in_default
+returns-in_default g c = (weights ClaimTooLarge (large (rw length-map c.requires.few) c.in_default.ensures), refl)
 
 pub returns-then-amount-ne0 : goal.returns-then-amount-ne0
 returns-then-amount-ne0 g c =
@@ -27,25 +27,25 @@ size_is a n fits e = e ∙ ap nat_abs (to_z-of_z w64 a fits)
 shared-as : (a : ℤ) (ws : List ℤ) {p q : ℕ} {vs ss : List ℤ} {t : ℤ} → p ≡ nat_abs a → q ≡ whole ws → vs ≡ map size ws → Shared p q vs ss t → Shared (nat_abs a) (whole ws) (map size ws) ss t
 shared-as a ws e f h d = rw (← e, ← f, ← h) d
 
-pub by-size-requires : goal.by-size-requires
-by-size-requires g c = let h = c.in-Some.ensures in rw h.2 h.0
+pub by_size-requires : goal.by_size-requires
+by_size-requires g c = let h = c.in-Some.ensures in rw h.2 h.0
 
 pub deal-requires : goal.deal-requires
 deal-requires g c =
     let ws = map g.C.Claim.told c.args.claims.now in
     let h = c.in-Some.ensures in
-    let sized : values c.by-size.new.rows ≡ map size ws = c.by-size.ensures ∙ ap (map size) h.2 in
-    rw sized (limits_sized _ _ ws (c.in-ok-check-fraction.ensures ws (rw length-map c.requires.few) h.0 h.1))
+    let sized : values c.by_size.new.rows ≡ map size ws = c.by_size.ensures ∙ ap (map size) h.2 in
+    rw sized (limits_sized _ _ ws (c.in_ok-check_fraction.ensures ws (rw length-map c.requires.few) h.0 h.1))
 
-pub sign-by-requires : goal.sign-by-requires
-sign-by-requires g c =
+pub sign_by-requires : goal.sign_by-requires
+sign_by-requires g c =
     let ws = map g.C.Claim.told c.args.claims.now in
     let a = c.args.amount in
     let h = c.in-Some.ensures in
-    let p = size_is a _ c.ranges.amount c.unsigned-abs-size.ensures.value in
+    let p = size_is a _ c.ranges.amount c.unsigned_abs-size.ensures.value in
     let q : c.max-divisor.result ≡ whole ws = omega (arith, c.max-divisor.ensures, h.1) in
     let n : sizes ws ≡ 0 → a ≡ pos 0 = λ z. omega (arith, ints, h.1, c.else-sum-eq0.either) in
-    low_from a ws _ _ n (shared-as a ws p q (c.by-size.ensures ∙ ap (map size) h.2) c.deal.ensures.shared)
+    low_from a ws _ _ n (shared-as a ws p q (c.by_size.ensures ∙ ap (map size) h.2) c.deal.ensures.shared)
 
 pub returns : goal.returns
 returns g c =
@@ -58,28 +58,28 @@ returns g c =
     let ws = map told xs in
     let a = c.args.amount in
     let h = c.in-Some.ensures in
-    let p = size_is a _ c.ranges.amount c.unsigned-abs-size.ensures.value in
+    let p = size_is a _ c.ranges.amount c.unsigned_abs-size.ensures.value in
     let n : sizes ws ≡ 0 → a ≡ pos 0 = λ z. omega (arith, ints, h.1, c.else-sum-eq0.either) in
     let q : c.max-divisor.result ≡ whole ws = omega (arith, c.max-divisor.ensures, h.1) in
-    let sh = shared-as a ws p q (c.by-size.ensures ∙ ap (map size) h.2) c.deal.ensures.shared in
-    let ss = shares c.sign-by.new.rows in
+    let sh = shared-as a ws p q (c.by_size.ensures ∙ ap (map size) h.2) c.deal.ensures.shared in
+    let ss = shares c.sign_by.new.rows in
     let same : length zs ≡ length xs = c.give.auto.claims in
-    let turned : ss ≡ map (signed a) (shares c.deal.new.rows) = c.sign-by.ensures ∙ ap (λ (z : ℤ). map (signed z) (shares c.deal.new.rows)) (to_z-of_z w64 a c.ranges.amount) in
+    let turned : ss ≡ map (signed a) (shares c.deal.new.rows) = c.sign_by.ensures ∙ ap (λ (z : ℤ). map (signed z) (shares c.deal.new.rows)) (to_z-of_z w64 a c.ranges.amount) in
     let long : length ss ≡ length xs = ap length turned ∙ length-map (shares c.deal.new.rows) (signed a) ∙ sh.long ∙ length-map ws size ∙ length-map xs told in
     let is_held_lem = takes_held told held taking met.holds met.tells ss xs zs same long c.give.ensures in
     record {
-      sharable = record { limits = rw (p, q) at (c.in-ok-check-fraction.ensures ws (rw length-map c.requires.few) h.0 h.1); nothing = n };
+      sharable = record { limits = rw (p, q) at (c.in_ok-check_fraction.ensures ws (rw length-map c.requires.few) h.0 h.1); nothing = n };
       over = rw (is_held_lem ∙ turned) (over_from a ws (shares c.deal.new.rows) _ n sh);
       taken = takes_taken told held taking met.holds met.tells ss xs zs same long c.give.ensures;
     }
 
-pub returns-in-err-check-fraction : goal.returns-in-err-check-fraction
-returns-in-err-check-fraction g c =
+pub returns-in_err-check_fraction : goal.returns-in_err-check_fraction
+returns-in_err-check_fraction g c =
     let ws = map g.C.Claim.told c.args.claims.now in
     let h = c.in-Some.ensures in
-    let p = size_is c.args.amount _ c.ranges.amount c.unsigned-abs-size.ensures.value in
+    let p = size_is c.args.amount _ c.ranges.amount c.unsigned_abs-size.ensures.value in
     let n : sizes ws ≡ 0 → c.args.amount ≡ pos 0 = λ z. omega (arith, ints, h.1, c.else-sum-eq0.either) in
     let q : c.max-divisor.result ≡ whole ws = omega (arith, c.max-divisor.ensures, h.1) in
-    let e = rw (p, q) at (c.in-err-check-fraction.ensures ws (rw length-map c.requires.few) h.0 h.1) in
-    let x = err_from_is_err_and c.from-residual.result c.from-residual.ensures.1 in
+    let e = rw (p, q) at (c.in_err-check_fraction.ensures ws (rw length-map c.requires.few) h.0 h.1) in
+    let x = err_from_is_err_and c.from_residual.result c.from_residual.ensures.1 in
     rw (x.1, x.2) (beyond _ n e, refl)

@@ -12,13 +12,13 @@ none r h s e = rw e refl
 moved : (r r' h h' s s' : Option DayPrice) (o : Option Prices) → r ≡ r' → h ≡ h' → s ≡ s' → By2008 r h s o → By2008 r' h' s' o
 moved r r' h h' s s' o p q t b = rw (← p, ← q, ← t) b
 
-pub returns-in-err-push : goal.returns-in-err-push
-returns-in-err-push c = IfOk-from_err c.from-residual.result _ c.from-residual.ensures.0
+pub returns-in_err-push : goal.returns-in_err-push
+returns-in_err-push c = IfOk-from_err c.from_residual.result _ c.from_residual.ensures.0
 
 pub loop-place-preserved : goal.loop-place-preserved
 loop-place-preserved c =
-    more _ c.loop-place.place _ _ _ c.in-ok-push.ensures.items
-    (moved _ _ _ _ _ _ c.prices-2008.result c.price-at-referred.ensures c.price-at-traded.ensures c.price-at-supplied.ensures c.prices-2008.ensures) c.loop-place.invariant
+    more _ c.loop-place.place _ _ _ c.in_ok-push.ensures.items
+    (moved _ _ _ _ _ _ c.prices_2008.result c.price_at-referred.ensures c.price_at-traded.ensures c.price_at-supplied.ensures c.prices_2008.ensures) c.loop-place.invariant
 
 pub returns : goal.returns
 returns c =

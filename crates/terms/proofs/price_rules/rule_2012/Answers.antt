@@ -12,13 +12,13 @@ none r s e = rw e refl
 moved : (r r' s s' : Option DayPrice) (o : Option Prices) → r ≡ r' → s ≡ s' → By2012 r s o → By2012 r' s' o
 moved r r' s s' o p q h = rw (← p, ← q) h
 
-pub returns-in-err-push : goal.returns-in-err-push
-returns-in-err-push c = IfOk-from_err c.from-residual.result _ c.from-residual.ensures.0
+pub returns-in_err-push : goal.returns-in_err-push
+returns-in_err-push c = IfOk-from_err c.from_residual.result _ c.from_residual.ensures.0
 
 pub loop-place-preserved : goal.loop-place-preserved
 loop-place-preserved c =
-    more _ c.loop-place.place _ _ _ c.in-ok-push.ensures.items
-    (moved _ _ _ _ c.prices-2012.result c.price-at-referred.ensures c.price-at-supplied.ensures c.prices-2012.ensures) c.loop-place.invariant
+    more _ c.loop-place.place _ _ _ c.in_ok-push.ensures.items
+    (moved _ _ _ _ c.prices_2012.result c.price_at-referred.ensures c.price_at-supplied.ensures c.prices_2012.ensures) c.loop-place.invariant
 
 pub returns : goal.returns
 returns c =

@@ -9,7 +9,7 @@ returns c =
     let fs = c.args.forecasts.now in
     let bs = vec_items c.loop-forecast.days in
     record {
-      fit = c.in-ok-check.ensures;
+      fit = c.in_ok-check.ensures;
       month = refl;
       days = on_each_date (DayOf terms) tt fs bs (omega arith) (λ k h. c.loop-forecast.invariant.1 k (omega arith)) terms.month;
     }

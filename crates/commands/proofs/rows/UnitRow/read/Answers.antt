@@ -4,8 +4,8 @@ use Rattle.std.proofs.lemmas.List.{nil_from_length}
 use Rattle.lines.specs.Words.{texts}
 use Rattle.commands.proofs.rows.UnitRow.read.Goals as goal
 
-pub returns-then-is-empty : goal.returns-then-is-empty
-returns-then-is-empty c = ap texts (nil_from_length _ (true-eqb _ 0 c.if-is-empty.ensures))
+pub returns-then-is_empty : goal.returns-then-is_empty
+returns-then-is_empty c = ap texts (nil_from_length _ (true-eqb _ 0 c.if-is_empty.ensures))
 
-pub returns-else-is-empty : goal.returns-else-is-empty
-returns-else-is-empty c _ e = false-eqb _ 0 c.if-is-empty.ensures (sym (length-map c.args.words.now (λ w. w.now)) ∙ ap length e)
+pub returns-else-is_empty : goal.returns-else-is_empty
+returns-else-is_empty c _ e = false-eqb _ 0 c.if-is_empty.ensures (sym (length-map c.args.words.now (λ w. w.now)) ∙ ap length e)

@@ -3,10 +3,10 @@ use Rattle.commands.specs.Replies.{text}
 use Rattle.desk_bands.specs.Bases.{BaseSaid, based, denied}
 use Rattle.desk_bands.proofs.bases.BaseLineCommand.answer.Goals as goal
 
-pub returns-in-ok-format : goal.returns-in-ok-format
-returns-in-ok-format g c =
-    (refl, subst (λ t. BaseSaid c.args.self.now (text t)) (sym c.in-ok-format.ensures.ok) (based _ (rw c.as-slice.ensures.value at c.in-Ok.ensures)))
+pub returns-in_ok-format : goal.returns-in_ok-format
+returns-in_ok-format g c =
+    (refl, subst (λ t. BaseSaid c.args.self.now (text t)) (sym c.in_ok-format.ensures.ok) (based _ (rw c.as_slice.ensures.value at c.in-Ok.ensures)))
 
-pub returns-in-ok-refused-text : goal.returns-in-ok-refused-text
-returns-in-ok-refused-text g c =
-    (refl, subst (λ t. BaseSaid c.args.self.now (text t)) (sym c.in-ok-refused-text.ensures) (denied _ (rw c.as-slice.ensures.value at c.in-Err.ensures)))
+pub returns-in_ok-refused_text : goal.returns-in_ok-refused_text
+returns-in_ok-refused_text g c =
+    (refl, subst (λ t. BaseSaid c.args.self.now (text t)) (sym c.in_ok-refused_text.ensures) (denied _ (rw c.as_slice.ensures.value at c.in-Err.ensures)))

@@ -4,11 +4,11 @@ use Rattle.rules.specs.declared.rules.Either.TheVariants.{That}
 use Rattle.desk_bands.specs.Setting.{ScheduleSet}
 use Rattle.desk_bands.proofs.setting.ScheduleLineCommandInHand.answer.Goals as goal
 
-pub returns-in-ok-format : goal.returns-in-ok-format
-returns-in-ok-format c =
-    subst (λ t. ScheduleSet c.args.self.now c.args.hand.now (That c.in-Ok.rule) (text t)) (sym c.in-ok-format.ensures.ok) (ScheduleSet.set _ (rw (c.terms.ensures, c.as-slice.ensures.value) at c.in-Ok.ensures))
+pub returns-in_ok-format : goal.returns-in_ok-format
+returns-in_ok-format c =
+    subst (λ t. ScheduleSet c.args.self.now c.args.hand.now (That c.in-Ok.rule) (text t)) (sym c.in_ok-format.ensures.ok) (ScheduleSet.set _ (rw (c.terms.ensures, c.as_slice.ensures.value) at c.in-Ok.ensures))
 
-pub returns-in-ok-refused-text : goal.returns-in-ok-refused-text
-returns-in-ok-refused-text c =
-    let unfit = rw (c.in-Refused.is, c.terms.ensures, c.as-slice.ensures.value) at c.in-Err.ensures in
-    subst (λ t. ScheduleSet c.args.self.now c.args.hand.now c.args.hand.now (text t)) (sym c.in-ok-refused-text.ensures) (ScheduleSet.denied _ unfit)
+pub returns-in_ok-refused_text : goal.returns-in_ok-refused_text
+returns-in_ok-refused_text c =
+    let unfit = rw (c.in-Refused.is, c.terms.ensures, c.as_slice.ensures.value) at c.in-Err.ensures in
+    subst (λ t. ScheduleSet c.args.self.now c.args.hand.now c.args.hand.now (text t)) (sym c.in_ok-refused_text.ensures) (ScheduleSet.denied _ unfit)

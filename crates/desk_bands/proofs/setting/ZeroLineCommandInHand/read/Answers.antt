@@ -1,5 +1,5 @@
 use Rattle.lines.proofs.Exits.{pass}
 use Rattle.desk_bands.proofs.setting.ZeroLineCommandInHand.read.Goals as goal
 
-pub returns-in-err-read : goal.returns-in-err-read
-returns-in-err-read c = pass _ _ _ c.from-residual.result c.from-residual.ensures.1 c.in-err-read.ensures (λ x h. (tt, h))
+pub returns-in_err-read : goal.returns-in_err-read
+returns-in_err-read c = pass _ _ _ c.from_residual.result c.from_residual.ensures.1 c.in_err-read.ensures (λ x h. (tt, h))

@@ -9,14 +9,14 @@ use Rattle.desk_sharing.proofs.sharings.ShareLineCommandUnit.answer.Goals as goa
 pub returns-in-Ok : goal.returns-in-Ok
 returns-in-Ok c =
     let h = c.in-Ok.ensures.shared in
-    let told : map told_by c.as-mut-slice.result.now ≡ vec_items c.args.self.now.claims = ap (map told_by) c.as-mut-slice.ensures.value ∙ c.in-ok-figures.ensures ∙ c.as-slice.ensures.value in
-    let long : length c.share.new.claims ≡ vec_len c.in-ok-figures.figures = c.share.auto.claims ∙ c.as-mut-slice.ensures.len in
-    let held = ap (map held_by) (c.as-slice-in-Ok.ensures.value ∙ with_items_is c.in-ok-figures.figures c.share.new.claims long) in
+    let told : map told_by c.as_mut_slice.result.now ≡ vec_items c.args.self.now.claims = ap (map told_by) c.as_mut_slice.ensures.value ∙ c.in_ok-figures.ensures ∙ c.as_slice.ensures.value in
+    let long : length c.share.new.claims ≡ vec_len c.in_ok-figures.figures = c.share.auto.claims ∙ c.as_mut_slice.ensures.len in
+    let held = ap (map held_by) (c.as_slice-in-Ok.ensures.value ∙ with_items_is c.in_ok-figures.figures c.share.new.claims long) in
     let total = to_z-of_z w64 c.in-Ok.total (search rules) in
-    subst (λ t. Shares c.args.self.now (text t)) (sym c.in-ok-format.ensures.ok) (given _ _ (rw told at h.limits) (rw (held, total, ← told) h.shared))
+    subst (λ t. Shares c.args.self.now (text t)) (sym c.in_ok-format.ensures.ok) (given _ _ (rw told at h.limits) (rw (held, total, ← told) h.shared))
 
 pub returns : goal.returns
 returns c =
     let h = c.in-Err.ensures.shared in
-    let told : map told_by c.as-mut-slice.result.now ≡ vec_items c.args.self.now.claims = ap (map told_by) c.as-mut-slice.ensures.value ∙ c.in-ok-figures.ensures ∙ c.as-slice.ensures.value in
-    subst (λ t. Shares c.args.self.now (text t)) (sym c.in-ok-refused-text.ensures) (denied _ (rw told at h.0))
+    let told : map told_by c.as_mut_slice.result.now ≡ vec_items c.args.self.now.claims = ap (map told_by) c.as_mut_slice.ensures.value ∙ c.in_ok-figures.ensures ∙ c.as_slice.ensures.value in
+    subst (λ t. Shares c.args.self.now (text t)) (sym c.in_ok-refused_text.ensures) (denied _ (rw told at h.0))

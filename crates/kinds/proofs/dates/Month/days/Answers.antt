@@ -11,16 +11,16 @@ february : (b : Bool) (y m : ℕ) → b ≡ is_leap y → m ≡ 2 → cond b 29 
 unfolding days_of
 february b y m e f = ap (λ t. cond t 29 28) e ∙ sym (ap (days_of y) f)
 
-pub returns-then-is-leap : goal.returns-then-is-leap
-returns-then-is-leap c = february true _ _ c.if-is-leap.ensures.value c.in-2.is
+pub returns-then-is_leap : goal.returns-then-is_leap
+returns-then-is_leap c = february true _ _ c.if-is_leap.ensures.value c.in-2.is
 
-pub returns-else-is-leap : goal.returns-else-is-leap
-returns-else-is-leap c = february false _ _ c.if-is-leap.ensures.value c.in-2.is
+pub returns-else-is_leap : goal.returns-else-is_leap
+returns-else-is_leap c = february false _ _ c.if-is_leap.ensures.value c.in-2.is
 
 pub returns-in-4 : goal.returns-in-4
 unfolding days_of
 returns-in-4 c = search rules
 
-pub returns-in-default : goal.returns-in-default
+pub returns-in_default : goal.returns-in_default
 unfolding days_of
-returns-in-default c = search rules
+returns-in_default c = search rules

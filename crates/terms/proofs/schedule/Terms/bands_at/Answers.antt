@@ -10,6 +10,6 @@ exact-requires c =
     record {
       tolerances =
           (omega (arith, standard_most t.perimeter t.base sound.base), mul-le c.from.result c.from-2.result 100000000 100 (omega arith) (omega arith));
-      share = c.temperature-share-n.ensures.within;
+      share = c.temperature_share-n.ensures.within;
       part = sound.talon;
     }
