@@ -7,8 +7,8 @@ use Rattle.sharing.proofs.Sums.{total_more, total_most, sizes_is}
 use Rattle.sharing.proofs.Columns.{value_at, column_more, column_all}
 use Rattle.sharing.proofs.rows.read.Goals as goal
 
-pub returns-then-size-gt-MOST-CLAIMED : goal.returns-then-size-gt-MOST-CLAIMED
-returns-then-size-gt-MOST-CLAIMED g c =
+pub returns-then-size-gt-MOST_CLAIMED : goal.returns-then-size-gt-MOST_CLAIMED
+returns-then-size-gt-MOST_CLAIMED g c =
     let f = g.C.Claim.told in
     let xs = c.args.claims.now in
     let i = c.loop-i.i in

@@ -7,9 +7,9 @@ use Rattle.sharing.proofs.Amounts.{fairly, one_over}
 use Rattle.sharing.proofs.Exact.{exact_amounts}
 use Rattle.sharing.proofs.shares.share_amount.Goals as goal
 
-pub returns-then-count-gt-MOST-CLAIMS : goal.returns-then-count-gt-MOST-CLAIMS
-returns-then-count-gt-MOST-CLAIMS g c = record {
-  shared = (weights TooManyClaims (many (rw length-map c.if-count-gt-MOST-CLAIMS.true)), refl);
+pub returns-then-count-gt-MOST_CLAIMS : goal.returns-then-count-gt-MOST_CLAIMS
+returns-then-count-gt-MOST_CLAIMS g c = record {
+  shared = (weights TooManyClaims (many (rw length-map c.if-count-gt-MOST_CLAIMS.true)), refl);
   exact = exact_amounts;
   fair = fairly;
   one_over = one_over;
