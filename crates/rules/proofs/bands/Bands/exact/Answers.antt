@@ -57,4 +57,4 @@ overflow_cast-result-5 c = omega (arith, figures (goal.at.overflow_cast-result-5
 pub invariant_of-result : goal.invariant_of-result
 invariant_of-result c =
     let h = figures (goal.at.invariant_of-result c).After-min-inner in
-    (h.lower_in, (h.upper_in, (h.low, (h.high, (h.limit, tt)))))
+    record { lower = h.lower_in; upper = h.upper_in; low = h.low; high = h.high; limit = h.limit }
