@@ -14,7 +14,7 @@ returns-in-Ok c =
     let h = c.in-Ok.ensures.shared in
     let told : map told_by c.as_mut_slice.result.now ≡ vec_items c.args.line.now.weights = ap (map told_by) c.as_mut_slice.ensures.value ∙ c.in_ok-figures.ensures ∙ c.as_slice.ensures.value in
     let long : length c.share_amount.new.claims ≡ vec_len c.in_ok-figures.figures = c.share_amount.auto.claims ∙ c.as_mut_slice.ensures.len in
-    let held : vec_items c.in_ok-shares.shares ≡ map held_by c.share_amount.new.claims = c.in_ok-shares.ensures ∙ ap (map held_by) (c.as_slice-in-Ok.ensures.value ∙ with_items_is c.in_ok-figures.figures c.share_amount.new.claims long) in
+    let held : vec_items c.in_ok-shares-in-Ok.shares ≡ map held_by c.share_amount.new.claims = c.in_ok-shares-in-Ok.ensures ∙ ap (map held_by) (c.as_slice-in-Ok.ensures.value ∙ with_items_is c.in_ok-figures.figures c.share_amount.new.claims long) in
     let a = to_z-of_z w64 c.args.line.now.amount (search rules) in
     allotted _ (rw (told, a) at h.sharable) (over-same _ _ _ _ _ _ a told held h.over)
 

@@ -11,7 +11,7 @@ loop-number-init g c p = record { wrote = writes_in_calls_nil _ _; plain = p }
 pub loop-number-preserved : goal.loop-number-preserved
 loop-number-preserved g c p =
     let before = c.loop-number.invariant p in
-    put_number _ c.args.self.now.0.now c.loop-number.number-index c.args.f.now c.loop-number.f c.write.new.self c.loop-number-test.true before (c.in_ok-write.ensures.shows before.plain (refl {a = true}))
+    put_number _ c.args.self.now.0.now c.loop-number.number-index c.args.f.now c.loop-number.f c.write.new.self c.loop-number-test.true before (c.in_ok-write.ensures.writes before.plain (refl {a = true}))
 
 pub returns-clause-writes : goal.returns-clause-writes
 returns-clause-writes g c p _ = has_written_of_eq _ _ _ _ _ (ap listed (take_all c.loop-number.number-index c.args.self.now.0.now c.loop-number-test.false)) (c.loop-number.invariant p)
