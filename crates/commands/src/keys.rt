@@ -16,8 +16,8 @@ pub trait Key: Sized {
 /// The choice that the first word makes, and the words after it.
 pub fn first_key<'a, 'b, K: Key>(words: &'a [&'b str]) -> Option<(K, &'a [&'b str])>
     ensures { MatchOption result
-        (Unkeyed spelled (texts words.now))
-        (λ x. Keyed spelled x.0 (texts x.1.now) (texts words.now)) }
+        (Unkeyed K.spelled (texts words.now))
+        (λ x. Keyed K.spelled x.0 (texts x.1.now) (texts words.now)) }
 {
     let Some((word, rest)) = words.split_first() else {
         return None;

@@ -41,7 +41,7 @@ pub fn carry_out<S, C: Command<S> + Drop>(
     words: &[&str],
     form: &'static str,
 ) -> Result<Reply, AllocError>
-    ensures { IfOk result (λ x. Replied means does form.now (texts words.now) state.old state.new (said x)) }
+    ensures { IfOk result (λ x. Replied C.means C.does form.now (texts words.now) state.old state.new (said x)) }
 {
     match C::read(heap, words) {
         Ok(command) => command.answer(heap, state),

@@ -6,7 +6,7 @@ use Rattle.terms.specs.Base.{Based, Baseless}
 use Rattle.terms.specs.Tolerance.{thousandths, Ends}
 use Rattle.terms.specs.declared.tolerance.Perimeter.{Perimeter}
 use Rattle.terms.specs.declared.tolerance.Perimeter.TheVariants.{NorthB, NorthH, South}
-use Rattle.lines.specs.Fields.{Natural, First, Each}
+use Rattle.lines.specs.Fields.{NaturalBelow, First, Each}
 use Rattle.commands.specs.Dates.{MonthWord}
 use Rattle.commands.specs.Refusals.{refused}
 use Rattle.commands.specs.Replies.{Said, text}
@@ -23,7 +23,7 @@ PerimeterWord w p = w ≡ named p
 
 -- the month, the capacity, the monthly capacity and then the allocations
 abbrev pub BaseWords : List (List ℕ) → BaseLine → Type 0
-BaseWords ws x = First (λ w m. MonthWord w m.0) x.month (First (Natural 32) x.capacity (First (Natural 32) x.monthly (λ vs. Each (Natural 32) vs (vec_items x.allocations)))) ws
+BaseWords ws x = First (λ w m. MonthWord w m.0) x.month (First (NaturalBelow 32) x.capacity (First (NaturalBelow 32) x.monthly (λ vs. Each (NaturalBelow 32) vs (vec_items x.allocations)))) ws
 
 pub data BaseSaid (x : BaseLine) : Said → Type 0 where
   based : (b : ℕ) → Based x.month.0 x.capacity x.monthly (vec_items x.allocations) b → BaseSaid x (text (codes "base " ++ decimal b))
@@ -31,7 +31,7 @@ pub data BaseSaid (x : BaseLine) : Said → Type 0 where
 
 -- the perimeter and the base
 abbrev pub ToleranceWords : List (List ℕ) → ToleranceLine → Type 0
-ToleranceWords ws x = First (λ w p. PerimeterWord w p.0) x.perimeter (First (Natural 32) x.base (λ vs. vs ≡ [])) ws
+ToleranceWords ws x = First (λ w p. PerimeterWord w p.0) x.perimeter (First (NaturalBelow 32) x.base (λ vs. vs ≡ [])) ws
 
 -- the thousandths of a kWh, and the bracket in which the base ends
 pub data ToleranceSaid (x : ToleranceLine) : Said → Type 0 where

@@ -1,6 +1,5 @@
 -- What the lines that set the band rule mean, and the rule that they set.
 use Rattle.std.specs.Prelude.{◌≡◌, ℕ, List, [], None, vec_items, codes, Option, MatchOption}
-use Rattle.std.specs.Int.{w16}
 use Rattle.kinds.specs.declared.dates.Date.{Date}
 use Rattle.kinds.specs.declared.refusals.Refusal.{Refusal}
 use Rattle.rules.specs.Bands.{figures_of, zeros, Misfit}
@@ -13,7 +12,8 @@ use Rattle.rules.specs.declared.rules.Fixed.{Fixed}
 use Rattle.terms.specs.PriceRules.{on_day}
 use Rattle.terms.specs.Schedule.{Unfit, Scheduled}
 use Rattle.terms.specs.declared.schedule.Terms.{Terms}
-use Rattle.lines.specs.Fields.{Natural, Number, Missing, First, Each}
+use Rattle.std.specs.Int.{w16}
+use Rattle.lines.specs.Fields.{NaturalBelow, NumberWithin, Missing, First, Each}
 use Rattle.commands.specs.Dates.{MonthWord}
 use Rattle.commands.specs.Refusals.{refused}
 use Rattle.commands.specs.Replies.{Said, text}
@@ -47,7 +47,7 @@ ZeroSet r y = Always zeros r × (y ≡ ok)
 
 -- the five figures, in the order of a set's names
 abbrev pub FixedWords : List (List ℕ) → FixedLine → Type 0
-FixedWords ws x = First (Natural 32) x.figures.lower_allowed (First (Natural 32) x.figures.lower_cumulable (First (Natural 32) x.figures.upper_cumulable (First (Natural 32) x.figures.upper_allowed (First (Natural 32) x.figures.carry_limit (λ vs. vs ≡ []))))) ws
+FixedWords ws x = First (NaturalBelow 32) x.figures.lower_allowed (First (NaturalBelow 32) x.figures.lower_cumulable (First (NaturalBelow 32) x.figures.upper_cumulable (First (NaturalBelow 32) x.figures.upper_allowed (First (NaturalBelow 32) x.figures.carry_limit (λ vs. vs ≡ []))))) ws
 
 -- these figures on every date; refused, the rule stays
 pub data FixedSet (x : FixedLine) (before : InHand) : InHand → Said → Type 0 where
@@ -57,8 +57,8 @@ pub data FixedSet (x : FixedLine) (before : InHand) : InHand → Said → Type 0
 -- the month, the perimeter and the terms in order, and then a forecast or a dash for each day
 abbrev pub ScheduleWords : List (List ℕ) → ScheduleLine → Type 0
 ScheduleWords ws x =
-    First (λ w m. MonthWord w m.0) x.month (First (λ w p. PerimeterWord w p.0) x.perimeter (First (Natural 32) x.base (First (Natural 8) x.optional
-    (First (Number w16) x.threshold (First (Number w16) x.limit (First (Natural 8) x.talon (λ vs. Each (Missing (Number w16)) vs (vec_items x.forecasts)))))))) ws
+    First (λ w m. MonthWord w m.0) x.month (First (λ w p. PerimeterWord w p.0) x.perimeter (First (NaturalBelow 32) x.base (First (NaturalBelow 8) x.optional
+    (First (NumberWithin w16) x.threshold (First (NumberWithin w16) x.limit (First (NaturalBelow 8) x.talon (λ vs. Each (Missing (NumberWithin w16)) vs (vec_items x.forecasts)))))))) ws
 
 abbrev pub terms_of : ScheduleLine → Terms
 terms_of x = record { month = x.month.0; perimeter = x.perimeter.0; base = x.base; optional = x.optional; threshold = x.threshold; limit = x.limit; talon = x.talon }

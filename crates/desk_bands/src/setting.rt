@@ -4,7 +4,6 @@ ghost use Rattle.desk_bands.specs.Setting.{NoneSet, ZeroSet, FixedWords, FixedSe
 
 use crate::bases::PerimeterName;
 use commands::{Command, MonthText, Reply, Row, Then, refused_text};
-use lines::fields::Field;
 use lines::{Fault, Field};
 use rules::bands::Bands;
 use rules::bands::parts::BandFigures;

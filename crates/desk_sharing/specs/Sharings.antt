@@ -17,7 +17,7 @@ use Rattle.desk_sharing.specs.declared.keywords.Keyword.TheVariants.{Share, Amou
 
 -- P, Q and then the claims
 abbrev pub ShareWords : List (List ℕ) → ShareLine → Type 0
-ShareWords ws x = First (Natural 64) x.p (First (Natural 64) x.q (λ vs. Each (Number w64) vs (vec_items x.claims))) ws
+ShareWords ws x = First Natural x.p (First Natural x.q (λ vs. Each Number vs (vec_items x.claims))) ws
 
 -- the total and the shares by the rule of sharing, or the limit that is passed
 pub data Shares (x : ShareLine) : Said → Type 0 where
@@ -26,7 +26,7 @@ pub data Shares (x : ShareLine) : Said → Type 0 where
 
 -- the amount and then the weights
 abbrev pub AmountWords : List (List ℕ) → AmountLine → Type 0
-AmountWords ws x = First (Number w64) x.amount (λ vs. Each (Number w64) vs (vec_items x.weights)) ws
+AmountWords ws x = First Number x.amount (λ vs. Each Number vs (vec_items x.weights)) ws
 
 -- the shares by the rule of an amount over weights, or why there are none
 pub data Amounts (x : AmountLine) : Said → Type 0 where

@@ -4,11 +4,11 @@ use Rattle.rules.specs.declared.rules.Either.TheVariants.{This}
 use Rattle.desk_bands.specs.Setting.{FixedSet, set, denied}
 use Rattle.desk_bands.proofs.setting.FixedLineCommandInHand.answer.Goals as goal
 
-pub returns-in_ok-format : goal.returns-in_ok-format
-returns-in_ok-format c =
+pub returns-in_ok-format-in-Ok : goal.returns-in_ok-format-in-Ok
+returns-in_ok-format-in-Ok c =
     let r = This (record { value = Some c.in-Ok.bands }) in
-    subst (λ t. FixedSet c.args.self.now c.args.hand.now r (text t)) (sym c.in_ok-format.ensures.ok) (FixedSet.set r (λ d. c.in-Ok.ensures))
+    subst (λ t. FixedSet c.args.self.now c.args.hand.now r (text t)) (sym c.in_ok-format-in-Ok.ensures.ok) (FixedSet.set r (λ d. c.in-Ok.ensures))
 
-pub returns-in_ok-refused_text : goal.returns-in_ok-refused_text
-returns-in_ok-refused_text c =
-    subst (λ t. FixedSet c.args.self.now c.args.hand.now c.args.hand.now (text t)) (sym c.in_ok-refused_text.ensures) (FixedSet.denied _ c.in-Err.ensures)
+pub returns-in_ok-refused_text-in-Err : goal.returns-in_ok-refused_text-in-Err
+returns-in_ok-refused_text-in-Err c =
+    subst (λ t. FixedSet c.args.self.now c.args.hand.now c.args.hand.now (text t)) (sym c.in_ok-refused_text-in-Err.ensures) (FixedSet.denied _ c.in-Err.ensures)

@@ -4,11 +4,11 @@ use Rattle.rules.specs.declared.rules.Either.TheVariants.{That}
 use Rattle.desk_bands.specs.Setting.{ScheduleSet}
 use Rattle.desk_bands.proofs.setting.ScheduleLineCommandInHand.answer.Goals as goal
 
-pub returns-in_ok-format : goal.returns-in_ok-format
-returns-in_ok-format c =
-    subst (λ t. ScheduleSet c.args.self.now c.args.hand.now (That c.in-Ok.rule) (text t)) (sym c.in_ok-format.ensures.ok) (ScheduleSet.set _ (rw (c.terms.ensures, c.as_slice.ensures.value) at c.in-Ok.ensures))
+pub returns-in_ok-format-in-Ok : goal.returns-in_ok-format-in-Ok
+returns-in_ok-format-in-Ok c =
+    subst (λ t. ScheduleSet c.args.self.now c.args.hand.now (That c.in-Ok.rule) (text t)) (sym c.in_ok-format-in-Ok.ensures.ok) (ScheduleSet.set _ (rw (c.terms.ensures, c.as_slice.ensures.value) at c.in-Ok.ensures))
 
-pub returns-in_ok-refused_text : goal.returns-in_ok-refused_text
-returns-in_ok-refused_text c =
+pub returns-in_ok-refused_text-in-Refused : goal.returns-in_ok-refused_text-in-Refused
+returns-in_ok-refused_text-in-Refused c =
     let unfit = rw (c.in-Refused.is, c.terms.ensures, c.as_slice.ensures.value) at c.in-Err.ensures in
-    subst (λ t. ScheduleSet c.args.self.now c.args.hand.now c.args.hand.now (text t)) (sym c.in_ok-refused_text.ensures) (ScheduleSet.denied _ unfit)
+    subst (λ t. ScheduleSet c.args.self.now c.args.hand.now c.args.hand.now (text t)) (sym c.in_ok-refused_text-in-Refused.ensures) (ScheduleSet.denied _ unfit)

@@ -11,7 +11,7 @@ loop-figure-init g c p = record { wrote = writes_in_calls_nil _ _; plain = p }
 pub loop-figure-preserved : goal.loop-figure-preserved
 loop-figure-preserved g c p =
     let before = c.loop-figure.invariant p in
-    put_share _ c.args.self.now.0.now c.loop-figure.figure-index _ c.args.f.now c.loop-figure.f c.write.new.self c.loop-figure-test.true before (c.in_ok-write.ensures.shows before.plain (refl {a = true}))
+    put_share _ c.args.self.now.0.now c.loop-figure.figure-index _ c.args.f.now c.loop-figure.f c.write.new.self c.loop-figure-test.true before (c.in_ok-write.ensures.writes before.plain (refl {a = true}))
 
 pub returns-clause-writes : goal.returns-clause-writes
 returns-clause-writes g c p _ = has_written_of_eq _ _ _ _ _ (ap (λ xs. listed (map held_by xs)) (take_all c.loop-figure.figure-index c.args.self.now.0.now c.loop-figure-test.false)) (c.loop-figure.invariant p)

@@ -17,10 +17,10 @@ returns-in-Ok c =
     let long : length c.share_amount.new.claims ≡ vec_len c.in_ok-figures.figures = c.share_amount.auto.claims ∙ c.as_mut_slice.ensures.len in
     let held = ap (map held_by) (c.as_slice-in-Ok.ensures.value ∙ with_items_is c.in_ok-figures.figures c.share_amount.new.claims long) in
     let a = to_z-of_z w64 c.args.self.now.amount (search rules) in
-    subst (λ t. Amounts c.args.self.now (text t)) (sym c.in_ok-format.ensures.ok) (given _ (rw (told, a) at h.sharable) (over-same _ _ _ _ _ _ a told held h.over))
+    subst (λ t. Amounts c.args.self.now (text t)) (sym c.in_ok-format-in-Ok.ensures.ok) (given _ (rw (told, a) at h.sharable) (over-same _ _ _ _ _ _ a told held h.over))
 
 pub returns : goal.returns
 returns c =
     let h = c.in-Err.ensures.shared in
     let told : map told_by c.as_mut_slice.result.now ≡ vec_items c.args.self.now.weights = ap (map told_by) c.as_mut_slice.ensures.value ∙ c.in_ok-figures.ensures ∙ c.as_slice.ensures.value in
-    subst (λ t. Amounts c.args.self.now (text t)) (sym c.in_ok-refused_text.ensures) (denied _ (rw (told, to_z-of_z w64 c.args.self.now.amount (search rules)) at h.0))
+    subst (λ t. Amounts c.args.self.now (text t)) (sym c.in_ok-refused_text-in-Err.ensures) (denied _ (rw (told, to_z-of_z w64 c.args.self.now.amount (search rules)) at h.0))
