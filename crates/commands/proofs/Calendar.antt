@@ -1,9 +1,9 @@
 -- The bytes of a month and of a date.
-use Rattle.std.proofs.Common.{◌≡◌, ℕ, zero, suc, ◌+◌, ◌*◌, ◌/◌, ◌%◌, ◌<◌, List, [], ◌∷◌, ◌++◌, length, get_or, take, drop, codes, sym, refl, ap, ◌∙◌, subst, arith}
+use Rattle.std.proofs.Common.{◌≡◌, ℕ, zero, suc, ◌+◌, ◌*◌, ◌/◌, ◌%◌, ◌<◌, List, [], ◌∷◌, ◌++◌, length, get_or, take, drop, codes, sym, refl, ap, ◌∙◌, arith}
 use Rattle.kinds.specs.declared.dates.Date.{Date}
 use Rattle.kinds.specs.declared.dates.Month.{Month}
 use Rattle.kinds.proofs.Days.{same_date}
-use Rattle.commands.specs.Dates.{padded, monthly, dated, Pair, Monthly, DateWord}
+use Rattle.commands.specs.Dates.{padded, monthly, Pair, Monthly, DateWord}
 use Rattle.commands.proofs.Digits.{padded_two}
 
 -- the bytes at two places

@@ -7,8 +7,6 @@ use Rattle.desk_bands.specs.declared.keywords.Keyword.{Keyword}
 use Rattle.desk_bands.specs.declared.keywords.Keyword.TheVariants.{Base, Tolerance, Bands}
 use Rattle.desk_bands.specs.declared.keywords.BandsForm.{BandsForm}
 use Rattle.desk_bands.specs.declared.keywords.BandsForm.TheVariants.{None, Zero, Fixed, Schedule}
-use Rattle.desk_bands.specs.declared.bases.BaseLine.{BaseLine}
-use Rattle.desk_bands.specs.declared.bases.ToleranceLine.{ToleranceLine}
 use Rattle.desk_bands.specs.declared.setting.NoneLine.{NoneLine}
 use Rattle.desk_bands.specs.declared.setting.ZeroLine.{ZeroLine}
 

@@ -1,6 +1,5 @@
 -- What the lines that share mean, and what is said to them.
 use Rattle.std.specs.Prelude.{ℕ, List, ◌++◌, ℤ, vec_items, codes}
-use Rattle.std.specs.Int.{w64}
 use Rattle.std.specs.Fmt.{signed_decimal}
 use Rattle.kinds.specs.declared.refusals.Refusal.{Refusal}
 use Rattle.sharing.specs.Sharing.{Shared}

@@ -7,7 +7,6 @@ use lib.Dec.{lit<, lit≤}
 use lib.IntN.{ℤ, pos, negsuc, ◌+ℤ◌, nat_abs}
 use lib.ListN.{length}
 use Rattle.sharing.specs.Sharing.{at, sizes}
-use Rattle.sharing.specs.Limits.{Limits}
 use Rattle.sharing.specs.Steps.{sum_to, total, floors, rests, due_of}
 use Rattle.sharing.proofs.Dealt.{dealt}
 use Rattle.sharing.proofs.Unique.{one_way}

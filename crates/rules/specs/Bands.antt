@@ -1,5 +1,5 @@
 -- A set of bands by its five figures, and why five figures are no set.
-use Rattle.std.specs.Prelude.{ℕ, ◌<◌, ◌≤◌, ◌⊎◌}
+use Rattle.std.specs.Prelude.{◌<◌, ◌≤◌, ◌⊎◌}
 use Rattle.kinds.specs.declared.refusals.Refusal.{Refusal}
 use Rattle.kinds.specs.declared.refusals.Refusal.TheVariants.{TermOutOfRange, BandOrder}
 use Rattle.rules.specs.declared.bands.Bands.{Bands}

@@ -1,5 +1,5 @@
 -- The value of a date, where there is one for each day of a month or none.
-use Rattle.std.specs.Prelude.{ℕ, ◌-◌, cond, ◌&&◌, List, None, Option, ◌==◌, nat_lt, slice_index_or}
+use Rattle.std.specs.Prelude.{◌-◌, cond, ◌&&◌, List, None, Option, ◌==◌, nat_lt, slice_index_or}
 use Rattle.kinds.specs.declared.dates.Date.{Date}
 use Rattle.kinds.specs.declared.dates.Month.{Month}
 

@@ -1,5 +1,5 @@
 -- A set of prices by its four figures, and why four figures are no set.
-use Rattle.std.specs.Prelude.{ℕ, ◌≤◌}
+use Rattle.std.specs.Prelude.{◌≤◌}
 use Rattle.kinds.specs.declared.refusals.Refusal.{Refusal}
 use Rattle.kinds.specs.declared.refusals.Refusal.TheVariants.{TermOutOfRange}
 use Rattle.rules.specs.declared.prices.Prices.{Prices}

@@ -1,11 +1,11 @@
 -- What every sharing of an amount keeps, and that there is one.
-use Rattle.std.proofs.Common.{◌≡◌, ℕ, zero, suc, ◌+◌, ◌*◌, ◌<◌, ◌≤◌, max, ◌⊎◌, List, [], ◌∷◌, map, length, ℤ, pos, negsuc, ◌+ℤ◌, ◌-ℤ◌, ◌*ℤ◌, neg_ℤ, nat_abs, ◌≤ℤ◌, ◌<ℤ◌, sym, refl, ap, ◌∙◌, inl, inr, mul-le-mul_right, mul_comm, arith}
+use Rattle.std.proofs.Common.{◌≡◌, ℕ, ◌+◌, ◌*◌, ◌<◌, ◌≤◌, List, [], ◌∷◌, map, length, ℤ, pos, negsuc, ◌+ℤ◌, ◌-ℤ◌, ◌*ℤ◌, nat_abs, ◌≤ℤ◌, ◌<ℤ◌, sym, refl, ap, ◌∙◌, inl, inr, mul-le-mul_right, mul_comm, arith}
 use Rattle.std.proofs.lemmas.List.{ext_get_or, length-map, get_or_past}
 use Rattle.std.proofs.lemmas.Int.{ints}
 use Rattle.std.proofs.lemmas.Bool.{cases_lt}
 use Rattle.sharing.specs.Sharing.{at, sum, sizes, Part, Shared}
 use Rattle.sharing.specs.Limits.{Limits}
-use Rattle.sharing.specs.Amounts.{size, signed, whole, Over, Fair, Fairly, OneOver}
+use Rattle.sharing.specs.Amounts.{size, signed, whole, Over, Fairly, OneOver}
 use Rattle.sharing.specs.Steps.{sum_to}
 use Rattle.sharing.proofs.Sums.{sum_to_lt, sum_to_scaled, sum_is, spread}
 use Rattle.sharing.proofs.Division.{cancel}

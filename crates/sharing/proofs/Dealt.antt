@@ -1,8 +1,8 @@
 -- Floors, and units to the first ranks, are a sharing, and every sharing is of this form.
-use Rattle.std.proofs.Common.{◌≡◌, ℕ, zero, suc, ◌+◌, ◌*◌, ◌/◌, ◌<◌, ◌≤◌, Bool, true, false, ltb, ◌⊎◌, List, length, ℤ, pos, ◌+ℤ◌, ◌-ℤ◌, ◌*ℤ◌, ◌≤ℤ◌, ◌<ℤ◌, sym, refl, ap, ◌∙◌, inl, inr, mul-le-mul_left, arith}
+use Rattle.std.proofs.Common.{◌≡◌, ℕ, zero, suc, ◌+◌, ◌*◌, ◌/◌, ◌<◌, ◌≤◌, Bool, true, false, ltb, ◌⊎◌, List, length, ℤ, pos, ◌+ℤ◌, ◌-ℤ◌, ◌*ℤ◌, sym, refl, ap, ◌∙◌, inl, inr, mul-le-mul_left, arith}
 use Rattle.std.proofs.lemmas.Int.{ints}
 use Rattle.std.proofs.lemmas.Bool.{cases_lt, ltb-true, ltb-false}
-use Rattle.sharing.specs.Sharing.{at, sum, Part, Nearest, Shared}
+use Rattle.sharing.specs.Sharing.{at, Part, Nearest, Shared}
 use Rattle.sharing.specs.Steps.{sum_to, total, floor_of, rest_of, floors, rests, bit, rank_of, due_of}
 use Rattle.sharing.proofs.Sums.{total_most, sums_with, sum_is, spread}
 use Rattle.sharing.proofs.Ranks.{ranked, ahead_out, rank_order}

@@ -1,5 +1,5 @@
 -- What is refused is not within the limits.
-use Rattle.std.proofs.Common.{ℕ, ◌<◌, List, ℤ, inl, inr, arith}
+use Rattle.std.proofs.Common.{List, ℤ, inl, inr, arith}
 use Rattle.kinds.specs.declared.refusals.Refusal.{Refusal}
 use Rattle.sharing.specs.Limits.{Few, Small, Breaks, many, large, high, apart, wide, ExactLimits}
 use Rattle.sharing.specs.Amounts.{weights, nothing, beyond, ExactAmounts}

@@ -1,6 +1,6 @@
 -- What the limits keep in range.
-use Rattle.std.proofs.Common.{ℕ, zero, suc, ◌+◌, ◌*◌, ◌<◌, ◌≤◌, List, length, ℤ, pos, nat_abs, ap, mul-le-mul_left, arith}
-use Rattle.sharing.specs.Sharing.{at, sizes}
+use Rattle.std.proofs.Common.{ℕ, zero, suc, ◌*◌, ◌<◌, ◌≤◌, List, length, ℤ, nat_abs, ap, mul-le-mul_left, arith}
+use Rattle.sharing.specs.Sharing.{at}
 use Rattle.sharing.specs.Limits.{Limits}
 use Rattle.sharing.specs.Steps.{sum_to, total, floors, rests, floor_of}
 use Rattle.sharing.proofs.Sums.{total_most, total_up, total_at, sizes_is}

@@ -1,5 +1,5 @@
 -- The rule of sharing an amount over weights, when it can be shared, and what every such sharing keeps.
-use Rattle.std.specs.Prelude.{◌≡◌, ℕ, ◌<◌, ◌≤◌, max, List, map, length, ℤ, pos, negsuc, neg_ℤ, ◌≤ℤ◌, ◌≢◌, unsigned_abs}
+use Rattle.std.specs.Prelude.{◌≡◌, ℕ, ◌≤◌, max, List, map, length, ℤ, pos, negsuc, neg_ℤ, ◌≤ℤ◌, ◌≢◌, unsigned_abs}
 use Rattle.kinds.specs.declared.refusals.Refusal.{Refusal}
 use Rattle.kinds.specs.declared.refusals.Refusal.TheVariants.{NoWeight}
 use Rattle.sharing.specs.Sharing.{at, sum, sizes, Shared}

@@ -1,5 +1,5 @@
 -- The working table of a sharing, by its columns.
-use Rattle.std.specs.Prelude.{ℕ, List, map, ℤ, pos, slice_index}
+use Rattle.std.specs.Prelude.{ℕ, List, map, ℤ, slice_index}
 use Rattle.sharing.specs.declared.rows.Row.{Row}
 
 abbrev pub values : List Row → List ℤ

@@ -1,5 +1,5 @@
 //! Divides the values of a table into whole shares that add up.
-ghost use Rattle.std.specs.Prelude.{◌≡◌, ℕ, ◌*◌, ◌<◌, ◌≤◌, true, false, ltb, length, pos, if◌then◌else◌, nat_eq, nat_lt, unsigned_abs};
+ghost use Rattle.std.specs.Prelude.{◌≡◌, ℕ, ◌*◌, ◌<◌, ◌≤◌, true, false, length, pos, if◌then◌else◌, nat_eq, nat_lt, unsigned_abs};
 ghost use Rattle.sharing.specs.Sharing.{at, Shared};
 ghost use Rattle.sharing.specs.Limits.{Limits};
 ghost use Rattle.sharing.specs.Rows.{values, shares, rest_at};
@@ -50,7 +50,7 @@ fn divide(rows: &mut [Row], p: u64, q: u64) -> (i64, u64)
 
 /// Whether the place `i`, with the remainder `a`, comes before the place `j`, with the remainder `b`.
 fn comes_before(a: u64, i: usize, b: u64, j: usize) -> bool
-    ensures { result ≡ (if ltb b a then true else (if nat_eq a b then nat_lt i j else false)) }
+    ensures { result ≡ (if nat_lt b a then true else (if nat_eq a b then nat_lt i j else false)) }
 {
     if a == b { i < j } else { a > b }
 }

@@ -1,5 +1,5 @@
 -- A series of day prices by the values of its days, and why values are no series.
-use Rattle.std.specs.Prelude.{◌≡◌, ℕ, ◌<◌, ◌≤◌, List, map, length, None, vec_items, Option, MatchOption, slice_index_or}
+use Rattle.std.specs.Prelude.{◌≡◌, ℕ, ◌<◌, List, map, length, None, vec_items, Option, MatchOption, slice_index_or}
 use Rattle.std.specs.Option.{option_map}
 use Rattle.kinds.specs.declared.dates.Month.{Month}
 use Rattle.kinds.specs.declared.refusals.Refusal.{Refusal}

@@ -1,4 +1,4 @@
-use Rattle.std.proofs.Common.{◌≡◌, [], ◌∷◌, ◌++◌, map, get_or, take, pos, is_ok, vec_items, sym, ap, ◌∙◌, arith, w64, SFits, to_z, of_z, rules}
+use Rattle.std.proofs.Common.{[], ◌∷◌, ◌++◌, map, get_or, take, pos, is_ok, sym, ap, ◌∙◌, w64, SFits, to_z, of_z, rules}
 use mathlib.Core.List.{map-append}
 use Rattle.std.proofs.ResultArms.{chosen}
 use Rattle.std.proofs.lemmas.List.{take_more, take_all}

@@ -1,4 +1,3 @@
-use Rattle.std.proofs.Common.{ap, ◌∙◌}
 use Rattle.commands.specs.Replies.{keyed, unkeyed}
 use Rattle.desk_sharing.specs.declared.keywords.Keyword.TheVariants.{Share, Amount}
 use Rattle.desk_sharing.proofs.keywords.answer.Goals as goal

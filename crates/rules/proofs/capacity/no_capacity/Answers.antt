@@ -1,4 +1,4 @@
-use Rattle.std.proofs.Common.{◌≡◌, Ok, Err, Result, refl, inl, inr, arith, lit≤, MatchResult}
+use Rattle.std.proofs.Common.{◌≡◌, Ok, Err, Result, inl, inr, arith, lit≤, MatchResult}
 use Rattle.std.specs.Option as options
 use Rattle.std.specs.Result.{result_ok}
 use Rattle.kinds.specs.declared.refusals.Refusal.{Refusal}

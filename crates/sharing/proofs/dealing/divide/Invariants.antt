@@ -1,4 +1,4 @@
-use Rattle.std.proofs.Common.{◌≡◌, ℕ, ◌<◌, ◌≤◌, length}
+use Rattle.std.proofs.Common.{◌≡◌, ℕ, ◌<◌}
 use Rattle.sharing.specs.Sharing.{at}
 use Rattle.sharing.specs.Rows.{values, shares, rest_at}
 use Rattle.sharing.specs.Steps.{sum_to, total, floors, rests}

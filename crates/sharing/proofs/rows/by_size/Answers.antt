@@ -1,11 +1,11 @@
-use Rattle.std.proofs.Common.{◌≡◌, ℕ, ◌+◌, ◌<◌, ◌≤◌, map, length, get_or, ℤ, pos, nat_abs, sym, refl, ap, ◌∙◌, arith, w64, SFits, to_z, of_z, rules}
+use Rattle.std.proofs.Common.{◌<◌, map, length, pos, sym, refl, ap, ◌∙◌, arith, w64, rules}
 use Rattle.std.proofs.lemmas.List.{length-map}
 use Rattle.std.proofs.lemmas.Int.{ints, to_z-of_z}
 use Rattle.sharing.specs.declared.rows.Row.{Row}
 use Rattle.sharing.specs.Sharing.{at}
 use Rattle.sharing.specs.Amounts.{size}
 use Rattle.sharing.specs.Rows.{values}
-use Rattle.sharing.proofs.Columns.{nil, at_map, row_at, column_more, column_rest, column_all}
+use Rattle.sharing.proofs.Columns.{at_map, row_at, column_more, column_rest, column_all}
 use Rattle.sharing.proofs.rows.by_size.Goals as goal
 
 pub abs-requires : goal.abs-requires

@@ -1,14 +1,13 @@
-use Rattle.std.proofs.Common.{◌≡◌, ℕ, ◌≤◌, List, map, length, ℤ, pos, nat_abs, sym, refl, ap, ◌∙◌, arith, w64, SFits, to_z, of_z, rules}
+use Rattle.std.proofs.Common.{◌≡◌, ℕ, List, map, length, ℤ, pos, nat_abs, refl, ap, ◌∙◌, arith, w64, SFits, to_z, of_z}
 use Rattle.std.proofs.lemmas.List.{length-map}
 use Rattle.std.proofs.lemmas.Result.{err_from_is_err_and}
 use Rattle.std.proofs.lemmas.Int.{ints, to_z-of_z}
 use Rattle.kinds.specs.declared.refusals.Refusal.TheVariants.{ClaimTooLarge}
-use Rattle.sharing.specs.declared.rows.Row.{Row}
 use Rattle.sharing.specs.Sharing.{sizes, Shared}
-use Rattle.sharing.specs.Limits.{Few, Limits, Breaks, large}
-use Rattle.sharing.specs.Amounts.{size, signed, whole, Over, weights, nothing, beyond}
+use Rattle.sharing.specs.Limits.{large}
+use Rattle.sharing.specs.Amounts.{size, signed, whole, weights, nothing, beyond}
 use Rattle.sharing.specs.Rows.{values, shares}
-use Rattle.sharing.proofs.Columns.{takes_held, takes_taken, shared_same}
+use Rattle.sharing.proofs.Columns.{takes_held, takes_taken}
 use Rattle.sharing.proofs.Amounts.{limits_sized, over_from, low_from}
 use Rattle.sharing.proofs.shares.share_amount_over.Goals as goal
 

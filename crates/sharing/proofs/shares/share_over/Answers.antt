@@ -1,11 +1,9 @@
-use Rattle.std.proofs.Common.{◌≡◌, ℕ, ◌≤◌, List, map, length, ℤ, sym, refl, ap, ◌∙◌, arith, w64, rules}
+use Rattle.std.proofs.Common.{◌≡◌, map, length, refl, ap, ◌∙◌, w64, rules}
 use Rattle.std.proofs.lemmas.List.{length-map}
 use Rattle.std.proofs.lemmas.Result.{err_from_is_err_and}
 use Rattle.std.proofs.lemmas.Int.{to_z-of_z}
-use Rattle.sharing.specs.declared.rows.Row.{Row}
-use Rattle.sharing.specs.Sharing.{Shared}
-use Rattle.sharing.specs.Limits.{Few, Limits, Breaks, large}
-use Rattle.sharing.specs.Rows.{values, shares}
+use Rattle.sharing.specs.Limits.{large}
+use Rattle.sharing.specs.Rows.{shares}
 use Rattle.sharing.proofs.Columns.{takes_held, takes_taken, shared_same}
 use Rattle.sharing.proofs.shares.share_over.Goals as goal
 

@@ -1,7 +1,7 @@
 use Rattle.std.proofs.Common.{Some, sym, subst}
 use Rattle.commands.specs.Replies.{text}
 use Rattle.rules.specs.declared.rules.Either.TheVariants.{This}
-use Rattle.desk_bands.specs.Setting.{FixedSet, set, denied}
+use Rattle.desk_bands.specs.Setting.{FixedSet}
 use Rattle.desk_bands.proofs.setting.FixedLineCommandInHand.answer.Goals as goal
 
 pub returns-in_ok-format-in-Ok : goal.returns-in_ok-format-in-Ok

@@ -1,5 +1,4 @@
 use Rattle.lines.proofs.Exits.{pass}
-use Rattle.rules.specs.declared.bands.parts.BandFigures.{BandFigures}
 use Rattle.desk_bands.proofs.setting.FixedLineCommandInHand.read.Goals as goal
 
 pub returns-in_err-row : goal.returns-in_err-row

@@ -1,4 +1,4 @@
-use Rattle.std.proofs.Common.{◌≡◌, List, map, length, vec_items, vec_len, sym, ap, ◌∙◌, subst, w64, rules}
+use Rattle.std.proofs.Common.{◌≡◌, map, length, vec_items, vec_len, sym, ap, ◌∙◌, subst, w64, rules}
 use Rattle.std.proofs.lemmas.List.{with_items_is}
 use Rattle.std.proofs.lemmas.Int.{to_z-of_z}
 use Rattle.commands.specs.Replies.{text}
