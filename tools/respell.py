@@ -35,18 +35,23 @@ def respelled(name):
 
 
 def declared():
-    """Every name that a file of specs/ or a lemma file of proofs/ declares, with the files that do."""
-    names = {}
-    for path in sorted(glob.glob("crates/*/specs/*.antt") + glob.glob("crates/*/proofs/*.antt")):
+    """Every name that a file of specs/ or a lemma file of proofs/ declares, and every lemma beside the answers to
+    goals, whose own names, all of them `pub`, are not ours to choose."""
+    names = set()
+    for path in glob.glob("crates/*/specs/*.antt") + glob.glob("crates/*/proofs/*.antt"):
         for line in open(path, encoding="utf-8"):
             found = (
                 re.match(MODIFIERS + r"record\s+(" + NAME + ")", line)
                 or re.match(MODIFIERS + r"data\s+(" + NAME + ")", line)
-                or re.match(MODIFIERS + r"(" + NAME + r")\s*:\s", line)
-                or re.match(r"\s+pub\s+(" + NAME + r")\s*:\s", line)
+                or re.match(r"\s*" + MODIFIERS + r"(" + NAME + r")\s*:\s", line)
             )
             if found:
-                names.setdefault(found.group(1), set()).add(path)
+                names.add(found.group(1))
+    for path in glob.glob("crates/*/proofs/*/**/*.antt", recursive=True):
+        for line in open(path, encoding="utf-8"):
+            found = re.match(r"(?:abbrev\s+)?(" + NAME + r")\s*:\s", line)
+            if found:
+                names.add(found.group(1))
     return names
 
 

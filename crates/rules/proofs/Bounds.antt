@@ -48,30 +48,30 @@ module _ (s o n d t : ℕ) (h1 : s ≤ 10000000000) (h2 : o ≤ 10000000000) (h3
       let e3 : (s + o) * d ≡ s * d + o * d = add-mul s o d in
       omega arith
 
-  outer-within : 2 * unit s o n d t - inner s o n d t ≤ upper s o n d t
-  outer-within =
+  outer_within : 2 * unit s o n d t - inner s o n d t ≤ upper s o n d t
+  outer_within =
       let all : (s + o) * d * t ≤ (s + o) * d * 100 = mul-le ((s + o) * d) t ((s + o) * d) 100 (omega arith) h5 in
       let more : o * (d - n) ≤ o * (d + n) = mul-le o (d - n) o (d + n) (omega arith) (omega arith) in
       omega (arith, middle)
 
-  upper-most : upper s o n d t ≤ 10000000000000 * d
-  upper-most =
+  upper_most : upper s o n d t ≤ 10000000000000 * d
+  upper_most =
       omega (arith, mul-le s d 10000000000 d h1 (omega arith), mul-le o (d + n) 10000000000 (2 * d) h2 (omega arith))
 
-  lower-most : lower s o n d t ≤ 10000000000000 * d
-  lower-most =
+  lower_most : lower s o n d t ≤ 10000000000000 * d
+  lower_most =
       omega (arith, mul-le s d 10000000000 d h1 (omega arith), mul-le o (d - n) 10000000000 d h2 (omega arith))
 
-  limit-most : 5 * unit s o n d t ≤ 10000000000000 * d
-  limit-most =
+  limit_most : 5 * unit s o n d t ≤ 10000000000000 * d
+  limit_most =
       let both : (s + o) * d ≤ 20000000000 * d = mul-le (s + o) d 20000000000 d (omega arith) (omega arith) in
       omega (arith, mul-le ((s + o) * d) t (20000000000 * d) 100 both h5)
 
   pub ranges : (i : ℕ) → 0 < d → i ≡ inner s o n d t → Ranges s o n d t i
   ranges i some e = record {
     lower_in = div_mono i (lower s o n d t) (100260 * d) (omega arith) (omega arith);
-    upper_in = div_mono (2 * unit s o n d t - i) (upper s o n d t) (100260 * d) (omega arith) (omega (arith, outer-within));
-    low = at_most (lower s o n d t) d lower-most;
-    high = at_most (upper s o n d t) d upper-most;
-    limit = at_most (5 * unit s o n d t) d limit-most;
+    upper_in = div_mono (2 * unit s o n d t - i) (upper s o n d t) (100260 * d) (omega arith) (omega (arith, outer_within));
+    low = at_most (lower s o n d t) d lower_most;
+    high = at_most (upper s o n d t) d upper_most;
+    limit = at_most (5 * unit s o n d t) d limit_most;
   }

@@ -41,8 +41,8 @@ evenly a ws n = elim (cases_lt 0 (sizes ws)) [
 
 -- a share of a claim that is not below zero
 module _ (p q v : ℕ) where
-  not-below : (f : ℤ) (x : ℕ) → Part p q (pos v) f x → pos 0 ≤ℤ f
-  not-below f x h =
+  not_below : (f : ℤ) (x : ℕ) → Part p q (pos v) f x → pos 0 ≤ℤ f
+  not_below f x h =
       let l : negsuc 0 <ℤ f = cancel q (negsuc 0) f (omega (arith, ints, h.is, h.below)) in
       omega (arith, ints)
 
@@ -51,8 +51,8 @@ module _ (p q v : ℕ) where
       let m : f <ℤ pos (v + 1) = cancel q f (pos (v + 1)) (omega (arith, ints, h.is, h.below, mul-le-mul_right v l)) in
       omega (arith, ints)
 
-  at-most-less : (f : ℤ) (x : ℕ) → p ≤ q → 0 < x → Part p q (pos v) f x → f <ℤ pos v
-  at-most-less f x l m h = cancel q f (pos v) (omega (arith, ints, h.is, h.below, mul-le-mul_right v l))
+  at_most_less : (f : ℤ) (x : ℕ) → p ≤ q → 0 < x → Part p q (pos v) f x → f <ℤ pos v
+  at_most_less f x l m h = cancel q f (pos v) (omega (arith, ints, h.is, h.below, mul-le-mul_right v l))
 
 -- where the total is exact, a claim with no remainder has no unit more
 module _ (p q : ℕ) (vs ss : List ℤ) (t : ℤ) (o : 0 < q) (h : Shared p q vs ss t) (exact : pos p *ℤ sum vs ≡ pos q *ℤ t) where
@@ -65,8 +65,8 @@ module _ (p q : ℕ) (vs ss : List ℤ) (t : ℤ) (o : 0 < q) (h : Shared p q vs
       let e : (at ss j -ℤ pos 1) +ℤ pos 1 ≡ at ss j = omega (arith, ints) in
       omega (arith, ints, w.is, w.below, spread q (at ss j -ℤ pos 1) (pos 1), ap (λ (z : ℤ). pos q *ℤ z) e)
 
-  no-unit : (k : ℕ) → k < length vs → Part p q (at vs k) (at ss k -ℤ pos 1) 0 → ⊥
-  no-unit k l u =
+  no_unit : (k : ℕ) → k < length vs → Part p q (at vs k) (at ss k -ℤ pos 1) 0 → ⊥
+  no_unit k l u =
       let less : (j : ℕ) → j < length vs → (pos p *ℤ at vs j) ≤ℤ (pos q *ℤ at ss j) = λ j m.
       elim (h.each j m).1 [ inl w ↦ above k j _ l m u w | inr w ↦ let s = up_by j _ w in omega (arith, ints) ] in
       let s = sum_to_lt (length vs) (λ j. pos p *ℤ at vs j) (λ j. pos q *ℤ at ss j) k l less (up_by k 0 u) in
@@ -89,30 +89,30 @@ pub record Apt (p q v : ℕ) (s : ℤ) : Type 0 where
 module _ (p q v : ℕ) (s : ℤ) (x : ℕ) where
   plain : Part p q (pos v) s x → Apt p q v s
   plain h = record {
-    low = not-below p q v s x h;
+    low = not_below p q v s x h;
     high = λ l. at_most p q v s x l h;
     nil = λ e.
         let h' : Part 0 q (pos 0) s x = record { is = omega (arith, ints, h.is, ap (λ (n : ℕ). p * n) e); below = h.below } in
-        omega (arith, ints, at_most 0 q 0 s x (omega arith) h', not-below 0 q 0 s x h');
+        omega (arith, ints, at_most 0 q 0 s x (omega arith) h', not_below 0 q 0 s x h');
   }
 
   extra : 0 < x → Part p q (pos v) (s -ℤ pos 1) x → Apt p q v s
   extra o h = record {
-    low = omega (arith, ints, not-below p q v (s -ℤ pos 1) x h);
-    high = λ l. omega (arith, ints, at-most-less p q v (s -ℤ pos 1) x l o h);
+    low = omega (arith, ints, not_below p q v (s -ℤ pos 1) x h);
+    high = λ l. omega (arith, ints, at_most_less p q v (s -ℤ pos 1) x l o h);
     nil = λ e.
         let h' : Part 0 q (pos 0) (s -ℤ pos 1) x = record { is = omega (arith, ints, h.is, ap (λ (n : ℕ). p * n) e); below = h.below } in
-        absurd (omega (arith, ints, at-most-less 0 q 0 (s -ℤ pos 1) x (omega arith) o h', not-below 0 q 0 (s -ℤ pos 1) x h'));
+        absurd (omega (arith, ints, at_most_less 0 q 0 (s -ℤ pos 1) x (omega arith) o h', not_below 0 q 0 (s -ℤ pos 1) x h'));
   }
 
 module _ (a : ℤ) (ws ss : List ℤ) (h : Over a ws ss) where
-  none-zero : sizes ws ≡ 0 → nat_abs a ≡ 0
-  none-zero e =
+  none_zero : sizes ws ≡ 0 → nat_abs a ≡ 0
+  none_zero e =
       let one : whole ws ≡ 1 = omega arith in
       omega (arith, ints, h.nearest.low, ap (λ (z : ℤ). pos (2 * nat_abs a) *ℤ z) (sum_map_size ws ∙ ap pos e), ap (λ (n : ℕ). pos (2 * n) *ℤ size a) one)
 
   exact : pos (nat_abs a) *ℤ sum (map size ws) ≡ pos (whole ws) *ℤ size a
-  exact = evenly a ws none-zero
+  exact = evenly a ws none_zero
 
   apt : (k : ℕ) → k < length ws → Apt (nat_abs a) (whole ws) (nat_abs (at ws k)) (signed a (at ss k))
   apt k l =
@@ -125,7 +125,7 @@ module _ (a : ℤ) (ws ss : List ℤ) (h : Over a ws ss) where
         | inr w ↦ elim (cases_lt 0 r.0) [
           | inl o ↦ extra _ _ (nat_abs (at ws k)) _ r.0 o (rw V at w)
           | inr o ↦ let e : r.0 ≡ 0 = omega arith in
-              absurd (no-unit (nat_abs a) (whole ws) (map size ws) (map (signed a) ss) (size a) (omega arith) h exact k m (rw e at w))
+              absurd (no_unit (nat_abs a) (whole ws) (map size ws) (map (signed a) ss) (size a) (omega arith) h exact k m (rw e at w))
         ]
       ] in
       rw S at res
@@ -174,8 +174,8 @@ limits_sized p q ws h = record {
 }
 
 module _ (a : ℤ) (ws ss : List ℤ) (t : ℤ) (n : sizes ws ≡ 0 → a ≡ pos 0) (h : Shared (nat_abs a) (whole ws) (map size ws) ss t) where
-  total-is : t ≡ size a
-  total-is =
+  total_is : t ≡ size a
+  total_is =
       let q = whole ws in
       let s = h.nearest in
       let up : t <ℤ (size a +ℤ pos 1) = cancel (2 * q) t (size a +ℤ pos 1) (omega (arith, ints, evenly a ws (λ z. ap nat_abs (n z)), s.low, spread (2 * q) (size a) (pos 1))) in
@@ -183,7 +183,7 @@ module _ (a : ℤ) (ws ss : List ℤ) (t : ℤ) (n : sizes ws ≡ 0 → a ≡ po
       omega (arith, ints)
 
   pub over_from : Over a ws (map (signed a) ss)
-  over_from = rw (signed_both a ss) (rw total-is at h)
+  over_from = rw (signed_both a ss) (rw total_is at h)
 
   pub low_from : (k : ℕ) → pos 0 ≤ℤ at ss k
   low_from k = elim (cases_lt k (length ws)) [
@@ -192,8 +192,8 @@ module _ (a : ℤ) (ws ss : List ℤ) (t : ℤ) (n : sizes ws ≡ 0 → a ≡ po
         let r = h.each k m in
         let V = at_map size refl ws k in
         elim r.1 [
-          | inl w ↦ not-below (nat_abs a) (whole ws) (nat_abs (at ws k)) _ r.0 (rw V at w)
-          | inr w ↦ omega (arith, ints, not-below (nat_abs a) (whole ws) (nat_abs (at ws k)) _ r.0 (rw V at w))
+          | inl w ↦ not_below (nat_abs a) (whole ws) (nat_abs (at ws k)) _ r.0 (rw V at w)
+          | inr w ↦ omega (arith, ints, not_below (nat_abs a) (whole ws) (nat_abs (at ws k)) _ r.0 (rw V at w))
         ]
     | inr l ↦ omega (arith, ints, get_or_past ss k (pos 0) (omega (arith, h.long, length-map ws size)))
   ]

@@ -64,19 +64,19 @@ any (x ∷ xs) k l = x
 -- claims that took their shares hold them, tell what they told, and differ in nothing else
 module _ {X : Type 0} (told held : X → ℤ) (taking : X → ℤ → X) (holds : (c : X) (s : ℤ) → held (taking c s) ≡ s) (tells : (c : X) (s : ℤ) → told (taking c s) ≡ told c)
     (ss : List ℤ) (xs zs : List X) (same : length zs ≡ length xs) (long : length ss ≡ length xs) (h : Takes taking (at ss) xs zs) where
-  at-column : (f : X → ℤ) (k : ℕ) (d : X) → k < length xs → at (map f zs) k ≡ f (taking (get_or xs k d) (at ss k))
-  at-column f k d l = get_or-map f zs k d (pos 0) (omega arith) ∙ ap f (h k d l)
+  at_column : (f : X → ℤ) (k : ℕ) (d : X) → k < length xs → at (map f zs) k ≡ f (taking (get_or xs k d) (at ss k))
+  at_column f k d l = get_or-map f zs k d (pos 0) (omega arith) ∙ ap f (h k d l)
 
   pub takes_held : map held zs ≡ ss
   takes_held = column_all held (pos 0) zs ss (same ∙ sym long) (λ k l.
-      let m : k < length xs = omega arith in at-column held k (any xs k m) m ∙ holds _ _)
+      let m : k < length xs = omega arith in at_column held k (any xs k m) m ∙ holds _ _)
 
   pub takes_taken : Taken told held taking xs zs
   takes_taken = record {
     tells = column_all told (pos 0) zs (map told xs) (same ∙ sym (length-map xs told)) (λ k l.
         let m : k < length xs = omega (arith, length-map xs told) in
         let d = any xs k m in
-        at-column told k d m ∙ tells _ _ ∙ sym (get_or-map told xs k d (pos 0) m));
+        at_column told k d m ∙ tells _ _ ∙ sym (get_or-map told xs k d (pos 0) m));
     only = λ k d l. h k d l ∙ ap (taking (get_or xs k d)) (sym (ap (λ ys. at ys k) takes_held));
   }
 

@@ -32,8 +32,8 @@ module _ (p q : ℕ) (h : 0 < q) where
   is_plain : (v s : ℤ) (x : ℕ) → Part p q v s x → s ≡ floor_of p q v
   is_plain v s x a = same_floor p q h v s (floor_of p q v) x (rest_of p q v) a (part p q h v)
 
-  is-extra : (v s : ℤ) (x : ℕ) → Part p q v (s -ℤ pos 1) x → s ≡ floor_of p q v +ℤ pos 1
-  is-extra v s x a = omega (arith, ints, same_floor p q h v (s -ℤ pos 1) (floor_of p q v) x (rest_of p q v) a (part p q h v))
+  is_extra : (v s : ℤ) (x : ℕ) → Part p q v (s -ℤ pos 1) x → s ≡ floor_of p q v +ℤ pos 1
+  is_extra v s x a = omega (arith, ints, same_floor p q h v (s -ℤ pos 1) (floor_of p q v) x (rest_of p q v) a (part p q h v))
 
   pub shared_from : (vs ss : List ℤ) (t : ℤ) → Dealt p q vs ss t → Shared p q vs ss t
   shared_from vs ss t d = record {
@@ -44,7 +44,7 @@ module _ (p q : ℕ) (h : 0 < q) where
     first = λ i j x y l m a b.
         let ex = same_rest p q h (at vs i) (at ss i -ℤ pos 1) (floor_of p q (at vs i)) x (rest_of p q (at vs i)) a (part p q h (at vs i)) in
         let ey = same_rest p q h (at vs j) (at ss j) (floor_of p q (at vs j)) y (rest_of p q (at vs j)) b (part p q h (at vs j)) in
-        rw (ex, ey) (d.first i j l m (is-extra (at vs i) (at ss i) x a) (is_plain (at vs j) (at ss j) y b));
+        rw (ex, ey) (d.first i j l m (is_extra (at vs i) (at ss i) x a) (is_plain (at vs j) (at ss j) y b));
   }
 
   pub dealt_from : (vs ss : List ℤ) (t : ℤ) → Shared p q vs ss t → Dealt p q vs ss t
@@ -52,7 +52,7 @@ module _ (p q : ℕ) (h : 0 < q) where
     long = d.long;
     whole = sum_is ss ∙ d.whole;
     nearest = rw sum_is d.nearest;
-    each = λ k l. elim (d.each k l).1 [ inl e ↦ inl (is_plain (at vs k) (at ss k) _ e) | inr e ↦ inr (is-extra (at vs k) (at ss k) _ e) ];
+    each = λ k l. elim (d.each k l).1 [ inl e ↦ inl (is_plain (at vs k) (at ss k) _ e) | inr e ↦ inr (is_extra (at vs k) (at ss k) _ e) ];
     first = λ i j l m a b. d.first i j _ _ l m (extra (at vs i) (at ss i) a) (plain (at vs j) (at ss j) b);
   }
 

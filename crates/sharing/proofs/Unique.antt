@@ -38,8 +38,8 @@ module _ (p q : ℕ) (vs : List ℤ) where
       let whole-b = ap (λ (n : ℕ). sum_to n (at zs)) b.long in
       omega (arith, ints, a.whole, b.whole)
 
-  same-share : (ss zs : List ℤ) (t : ℤ) → Dealt p q vs ss t → Dealt p q vs zs t → (i : ℕ) → i < length vs → at ss i ≡ at zs i
-  same-share ss zs t a b i l =
+  same_share : (ss zs : List ℤ) (t : ℤ) → Dealt p q vs ss t → Dealt p q vs zs t → (i : ℕ) → i < length vs → at ss i ≡ at zs i
+  same_share ss zs t a b i l =
       elim (a.each i l) [
         | inl e ↦ elim (b.each i l) [ inl f ↦ e ∙ sym f | inr f ↦ absurd (no_more zs ss t b a i l f e) ]
         | inr e ↦ elim (b.each i l) [ inl f ↦ absurd (no_more ss zs t a b i l e f) | inr f ↦ e ∙ sym f ]
@@ -49,7 +49,7 @@ one_dealt : (p q : ℕ) (vs ss zs : List ℤ) (t u : ℤ) → 0 < q → Dealt p 
 one_dealt p q vs ss zs t u h a b =
     let e = one_nearest p q _ t u a.nearest b.nearest in
     let b' : Dealt p q vs zs t = rw e b in
-    (ext_get_or (pos 0) ss zs (a.long ∙ sym b.long) (λ i l. same-share p q vs ss zs t a b' i (omega (arith, a.long))), e)
+    (ext_get_or (pos 0) ss zs (a.long ∙ sym b.long) (λ i l. same_share p q vs ss zs t a b' i (omega (arith, a.long))), e)
 
 pub one_way : OneWay
 one_way p q vs ss zs t u h a b = one_dealt p q vs ss zs t u h (dealt_from p q h vs ss t a) (dealt_from p q h vs zs u b)

@@ -6,8 +6,8 @@ use Rattle.desk.specs.Replies.{allotted, denied}
 use Rattle.std.proofs.lemmas.List.{with_items_is}
 use Rattle.desk.proofs.replies.answer_amount.Goals as goal
 
-over-same : (a b : ℤ) (ws vs ss zs : List ℤ) → a ≡ b → ws ≡ vs → zs ≡ ss → Over a ws ss → Over b vs zs
-over-same a b ws vs ss zs e f h d = rw (← e, ← f, h) d
+over_same : (a b : ℤ) (ws vs ss zs : List ℤ) → a ≡ b → ws ≡ vs → zs ≡ ss → Over a ws ss → Over b vs zs
+over_same a b ws vs ss zs e f h d = rw (← e, ← f, h) d
 
 pub returns-in-Ok : goal.returns-in-Ok
 returns-in-Ok c =
@@ -16,7 +16,7 @@ returns-in-Ok c =
     let long : length c.share_amount.new.claims ≡ vec_len c.in_ok-figures.figures = c.share_amount.auto.claims ∙ c.as_mut_slice.ensures.len in
     let held : vec_items c.in_ok-shares-in-Ok.shares ≡ map held_by c.share_amount.new.claims = c.in_ok-shares-in-Ok.ensures ∙ ap (map held_by) (c.as_slice-in-Ok.ensures.value ∙ with_items_is c.in_ok-figures.figures c.share_amount.new.claims long) in
     let a = to_z-of_z w64 c.args.line.now.amount (search rules) in
-    allotted _ (rw (told, a) at h.sharable) (over-same _ _ _ _ _ _ a told held h.over)
+    allotted _ (rw (told, a) at h.sharable) (over_same _ _ _ _ _ _ a told held h.over)
 
 pub returns : goal.returns
 returns c =

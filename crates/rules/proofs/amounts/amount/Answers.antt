@@ -3,14 +3,14 @@ use Rattle.std.proofs.lemmas.Int.{ints, to_z-of_z}
 use Rattle.rules.specs.Amounts.{Nearest, Amounts}
 use Rattle.rules.proofs.amounts.amount.Goals as goal
 
-size-negated : (n : ℕ) → nat_abs (neg_ℤ (pos n)) ≡ n
-size-negated zero = refl
-size-negated (suc n) = refl
+size_negated : (n : ℕ) → nat_abs (neg_ℤ (pos n)) ≡ n
+size_negated zero = refl
+size_negated (suc n) = refl
 
 size_below : (n : ℕ) → nat_abs (pos 0 -ℤ pos n) ≡ n
 size_below n =
     let e : pos 0 -ℤ pos n ≡ neg_ℤ (pos n) = omega (arith, ints) in
-    ap nat_abs e ∙ size-negated n
+    ap nat_abs e ∙ size_negated n
 
 module _ (m b n : ℕ) (e : ℤ) (fits : SFits w64 e) (size : b ≡ nat_abs (to_z w64 (of_z w64 e))) (h : Nearest m b n) (l : n ≤ 40000000000000) where
   near : Nearest m (nat_abs e) n

@@ -40,9 +40,9 @@ overflow_cast-result c =
     )
 
 -- the total that the code finds is the sum of the floors and what is lacking
-total-is : (z s : ℤ) (r q k : ℕ) → z ≡ s → nat_abs s ≤ 9000000000000000000 → r ≤ 40000000000000 → q ≤ 1000000000000 → k ≤ 2 * r + q
+total_is : (z s : ℤ) (r q k : ℕ) → z ≡ s → nat_abs s ≤ 9000000000000000000 → r ≤ 40000000000000 → q ≤ 1000000000000 → k ≤ 2 * r + q
     → (SFits w64 (to_z w64 (of_z w64 z) +ℤ to_z w64 k)) × (to_z w64 (of_z w64 (to_z w64 (of_z w64 z) +ℤ to_z w64 k)) ≡ s +ℤ pos k)
-total-is z s r q k e a b d f = (omega (arith, ints), omega (arith, ints))
+total_is z s r q k e a b d f = (omega (arith, ints), omega (arith, ints))
 
 total_of : (c : goal.Joined-lacking-gt0) → let k = (2 * c.divide-floor_sum.result.1 + c.args.q) / (2 * c.args.q) in
     (SFits w64 (to_z w64 (of_z w64 c.divide-floor_sum.result.0) +ℤ to_z w64 k))
@@ -51,7 +51,7 @@ total_of c =
     let vs = values c.args.rows.now in
     let n = length-map {A = Row} c.args.rows.now (λ r. r.value) in
     let m = length c.args.rows.now in
-    total-is _ _ c.divide-floor_sum.result.1 c.args.q _ c.divide-floor_sum.ensures.floor_sum (floors_within _ _ vs c.requires m (omega arith))
+    total_is _ _ c.divide-floor_sum.result.1 c.args.q _ c.divide-floor_sum.ensures.floor_sum (floors_within _ _ vs c.requires m (omega arith))
     (omega (arith, c.divide-floor_sum.ensures.rest_sum, rests_within _ _ vs c.requires m (omega arith))) c.requires.bottom
     (div-le_self (2 * c.divide-floor_sum.result.1 + c.args.q) (2 * c.args.q))
 

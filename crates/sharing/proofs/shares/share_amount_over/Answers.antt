@@ -23,8 +23,8 @@ size_is : (a : ℤ) (n : ℕ) → SFits w64 a → n ≡ nat_abs (to_z w64 (of_z 
 size_is a n fits e = e ∙ ap nat_abs (to_z-of_z w64 a fits)
 
 -- what is dealt out is a part of the size of the amount, over the sizes of the weights
-shared-as : (a : ℤ) (ws : List ℤ) {p q : ℕ} {vs ss : List ℤ} {t : ℤ} → p ≡ nat_abs a → q ≡ whole ws → vs ≡ map size ws → Shared p q vs ss t → Shared (nat_abs a) (whole ws) (map size ws) ss t
-shared-as a ws e f h d = rw (← e, ← f, ← h) d
+shared_as : (a : ℤ) (ws : List ℤ) {p q : ℕ} {vs ss : List ℤ} {t : ℤ} → p ≡ nat_abs a → q ≡ whole ws → vs ≡ map size ws → Shared p q vs ss t → Shared (nat_abs a) (whole ws) (map size ws) ss t
+shared_as a ws e f h d = rw (← e, ← f, ← h) d
 
 pub by_size-requires : goal.by_size-requires
 by_size-requires g c = let h = c.in-Some.ensures in rw h.2 h.0
@@ -44,7 +44,7 @@ sign_by-requires g c =
     let p = size_is a _ c.ranges.amount c.unsigned_abs-size.ensures.value in
     let q : c.max-divisor.result ≡ whole ws = omega (arith, c.max-divisor.ensures, h.1) in
     let n : sizes ws ≡ 0 → a ≡ pos 0 = λ z. omega (arith, ints, h.1, c.else-sum-eq0.either) in
-    low_from a ws _ _ n (shared-as a ws p q (c.by_size.ensures ∙ ap (map size) h.2) c.deal.ensures.shared)
+    low_from a ws _ _ n (shared_as a ws p q (c.by_size.ensures ∙ ap (map size) h.2) c.deal.ensures.shared)
 
 pub returns : goal.returns
 returns g c =
@@ -60,7 +60,7 @@ returns g c =
     let p = size_is a _ c.ranges.amount c.unsigned_abs-size.ensures.value in
     let n : sizes ws ≡ 0 → a ≡ pos 0 = λ z. omega (arith, ints, h.1, c.else-sum-eq0.either) in
     let q : c.max-divisor.result ≡ whole ws = omega (arith, c.max-divisor.ensures, h.1) in
-    let sh = shared-as a ws p q (c.by_size.ensures ∙ ap (map size) h.2) c.deal.ensures.shared in
+    let sh = shared_as a ws p q (c.by_size.ensures ∙ ap (map size) h.2) c.deal.ensures.shared in
     let ss = shares c.sign_by.new.rows in
     let same : length zs ≡ length xs = c.give.auto.claims in
     let turned : ss ≡ map (signed a) (shares c.deal.new.rows) = c.sign_by.ensures ∙ ap (λ (z : ℤ). map (signed z) (shares c.deal.new.rows)) (to_z-of_z w64 a c.ranges.amount) in

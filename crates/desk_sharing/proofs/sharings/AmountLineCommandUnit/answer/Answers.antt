@@ -7,8 +7,8 @@ use Rattle.desk_sharing.specs.Figures.{told_by, held_by}
 use Rattle.desk_sharing.specs.Sharings.{Amounts, given, denied}
 use Rattle.desk_sharing.proofs.sharings.AmountLineCommandUnit.answer.Goals as goal
 
-over-same : (a b : ℤ) (ws vs ss zs : List ℤ) → a ≡ b → ws ≡ vs → zs ≡ ss → Over a ws ss → Over b vs zs
-over-same a b ws vs ss zs e f h d = rw (← e, ← f, h) d
+over_same : (a b : ℤ) (ws vs ss zs : List ℤ) → a ≡ b → ws ≡ vs → zs ≡ ss → Over a ws ss → Over b vs zs
+over_same a b ws vs ss zs e f h d = rw (← e, ← f, h) d
 
 pub returns-in-Ok : goal.returns-in-Ok
 returns-in-Ok c =
@@ -17,7 +17,7 @@ returns-in-Ok c =
     let long : length c.share_amount.new.claims ≡ vec_len c.in_ok-figures.figures = c.share_amount.auto.claims ∙ c.as_mut_slice.ensures.len in
     let held = ap (map held_by) (c.as_slice-in-Ok.ensures.value ∙ with_items_is c.in_ok-figures.figures c.share_amount.new.claims long) in
     let a = to_z-of_z w64 c.args.self.now.amount (search rules) in
-    subst (λ t. Amounts c.args.self.now (text t)) (sym c.in_ok-format-in-Ok.ensures.ok) (given _ (rw (told, a) at h.sharable) (over-same _ _ _ _ _ _ a told held h.over))
+    subst (λ t. Amounts c.args.self.now (text t)) (sym c.in_ok-format-in-Ok.ensures.ok) (given _ (rw (told, a) at h.sharable) (over_same _ _ _ _ _ _ a told held h.over))
 
 pub returns : goal.returns
 returns c =

@@ -5,8 +5,8 @@ use Rattle.kinds.specs.Calendar.{days_of, Last, last_date}
 use Rattle.kinds.proofs.Days.{longest, within_year, december, same_date, one_next, next_in_month, next_month, next_year}
 use Rattle.kinds.proofs.dates.Date.next.Goals as goal
 
-at-end : (d : Date) → Last d → 12 ≤ d.month → 65535 ≤ d.year → d.year < 65536 → d ≡ last_date
-at-end d h p q r =
+at_end : (d : Date) → Last d → 12 ≤ d.month → 65535 ≤ d.year → d.year < 65536 → d ≡ last_date
+at_end d h p q r =
     let m : d.month ≡ 12 = omega (arith, within_year d.year d.month) in
     same_date d last_date (omega arith) m (h.1 ∙ ap (days_of d.year) m ∙ december d.year)
 
@@ -35,4 +35,4 @@ returns-then-self-lt65535 c =
 pub returns-else-self-lt65535 : goal.returns-else-self-lt65535
 returns-else-self-lt65535 c =
     let h = c.if-not-is_last_of_month.ensures in
-    record { value = inr (at-end _ h c.if-self-lt12.false c.if-self-lt65535.false (omega arith)); one_next = one_next }
+    record { value = inr (at_end _ h c.if-self-lt12.false c.if-self-lt65535.false (omega arith)); one_next = one_next }
