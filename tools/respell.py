@@ -6,8 +6,8 @@
 
 A word is written in snake case, a type or a fact in upper camel case; `dateOf` becomes `date_of`, `Exact-limits`
 becomes `ExactLimits`. Only names that are declared in specs/ or as lemmas in proofs/ are touched, and only where they
-stand in antt: .antt files (in comments only what stands between backticks), and in .rt files the `ghost use` lines, the clauses and the ghost members.
-Functions, exported names, strings, inputs and outputs keep their names.
+stand in antt: .antt files (in comments only what stands between backticks), and in .rt files the `ghost use` lines,
+the clauses and the ghost members. Functions, exported names, strings, inputs and outputs keep their names.
 """
 import glob
 import os
