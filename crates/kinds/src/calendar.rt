@@ -14,6 +14,7 @@ fn is_leap(year: u16) -> bool
 
 impl Month {
     /// How many days the month has; 0 where there is no such month.
+    #[tactic(auto, unfolding(crate::specs::Calendar::days_of))]
     pub fn days(self) -> u8
         ensures { result ≡ days_of self.year self.month }
     {
@@ -87,6 +88,6 @@ impl Date {
     pub fn is_before(self, other: Date) -> bool
         ensures { MatchBool result (Before self other) (Before self other → ⊥) }
     {
-        (self.year, self.month, self.day) < (other.year, other.month, other.day)
+        self < other
     }
 }

@@ -1,12 +1,14 @@
 //! Why a call was refused.
-ghost use Rattle.std.specs.Prelude.{◌≡◌};
+ghost use Rattle.std.specs.Prelude.{◌≡◌, Some};
 ghost use Rattle.kinds.specs.Refusals.{number_of, date_of, offset_of, reason_of};
+ghost use Rattle.kinds.specs.Texts.{grounded};
 
 use crate::dates::Date;
+use std::fmt;
 
 /// Why a call was refused: one case for each ground, with the date of the day in question or
 /// the offset into the file where one belongs.
-#[derive(Clone, Copy)]
+#[derive(Clone, Copy, PartialEq, Eq, Debug)]
 pub enum Refusal {
     /// The account has ended.
     Ended,
@@ -172,6 +174,21 @@ impl Refusal {
             Refusal::BandOrder => "a cumulable band is above the allowed band of its side",
             Refusal::BrokenFile(_) => "the day file is broken",
             Refusal::StatementTooLong => "the statement does not fit into the buffer",
+        }
+    }
+}
+
+/// The number, the day or the offset where one belongs, and the reason.
+impl fmt::Display for Refusal {
+    ghost output = { λ r. Some (grounded r) };
+
+    fn fmt<W: fmt::Write>(&self, f: &mut fmt::Formatter<W>) -> fmt::Result {
+        let number = self.number();
+        let reason = self.reason();
+        match (self.date(), self.offset()) {
+            (Some(date), _) => write!(f, "{number} {date} {reason}"),
+            (None, Some(offset)) => write!(f, "{number} at {offset} {reason}"),
+            (None, None) => write!(f, "{number} {reason}"),
         }
     }
 }

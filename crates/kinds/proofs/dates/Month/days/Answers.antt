@@ -1,11 +1,7 @@
--- The days of the months that there are, one arm at a time, and of those that there are not.
-use Rattle.std.proofs.Common.{◌≡◌, ℕ, Bool, true, false, cond, sym, ap, ◌∙◌, rules}
+-- How long February is.
+use Rattle.std.proofs.Common.{◌≡◌, ℕ, Bool, true, false, cond, sym, ap, ◌∙◌}
 use Rattle.kinds.specs.Calendar.{is_leap, days_of}
 use Rattle.kinds.proofs.dates.Month.days.Goals as goal
-
-pub returns-then-self-eq0 : goal.returns-then-self-eq0
-unfolding days_of
-returns-then-self-eq0 c = search rules
 
 february : (b : Bool) (y m : ℕ) → b ≡ is_leap y → m ≡ 2 → cond b 29 28 ≡ days_of y m
 unfolding days_of
@@ -16,11 +12,3 @@ returns-then-is_leap c = february true _ _ c.if-is_leap.ensures.value c.in-2.is
 
 pub returns-else-is_leap : goal.returns-else-is_leap
 returns-else-is_leap c = february false _ _ c.if-is_leap.ensures.value c.in-2.is
-
-pub returns-in-4 : goal.returns-in-4
-unfolding days_of
-returns-in-4 c = search rules
-
-pub returns-in_default : goal.returns-in_default
-unfolding days_of
-returns-in_default c = search rules
