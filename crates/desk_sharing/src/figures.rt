@@ -42,14 +42,13 @@ impl Claim for Figure {
 pub fn figures_of(heap: Global, values: &[i64]) -> Result<Vec<Figure>, AllocError>
     ensures { IfOk result (λ v. map told_by v.items ≡ values.now) }
 {
-    let mut figures = Vec::new(heap);
-    for value in values {
-        figures.push(Figure {
+    values
+        .iter()
+        .map(|value| Figure {
             value: *value,
             share: 0,
-        })?;
-    }
-    Ok(figures)
+        })
+        .collect(heap)
 }
 
 /// The shares that claims hold, each after a blank.

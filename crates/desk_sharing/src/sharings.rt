@@ -2,7 +2,7 @@
 ghost use Rattle.desk_sharing.specs.Sharings.{ShareWords, Shares, AmountWords, Amounts};
 
 use crate::figures::{Shares, figures_of};
-use commands::{Command, Reply, Row, Then, refused_text};
+use commands::{Command, Reply, Row, Then};
 use lines::Fault;
 use lines::fields::Field;
 use sharing::{share, share_amount};
@@ -22,11 +22,13 @@ impl Command<()> for ShareLine {
     ghost does = { λ x _ _ s. Shares x s };
 
     fn read(heap: Global, words: &[&str]) -> Result<ShareLine, Fault> {
-        let Then { value: p, rest } = Then::<u64, Then<u64, Vec<i64>>>::read(heap, words)?;
         let Then {
-            value: q,
-            rest: claims,
-        } = rest;
+            value: p,
+            rest: Then {
+                value: q,
+                rest: claims,
+            },
+        } = Then::<u64, Then<u64, Vec<i64>>>::read(heap, words)?;
         Ok(ShareLine { p, q, claims })
     }
 
@@ -37,7 +39,7 @@ impl Command<()> for ShareLine {
                 let shares = Shares(figures.as_slice());
                 Ok(Reply::Text(format!(in heap; "total {total} shares{shares}")?))
             }
-            Err(refusal) => Ok(Reply::Text(refused_text(heap, refusal)?)),
+            Err(refusal) => Ok(Reply::Refused(refusal)),
         }
     }
 }
@@ -69,7 +71,7 @@ impl Command<()> for AmountLine {
                 let shares = Shares(figures.as_slice());
                 Ok(Reply::Text(format!(in heap; "shares{shares}")?))
             }
-            Err(refusal) => Ok(Reply::Text(refused_text(heap, refusal)?)),
+            Err(refusal) => Ok(Reply::Refused(refusal)),
         }
     }
 }
