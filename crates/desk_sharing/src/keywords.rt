@@ -38,19 +38,25 @@ impl Keyword {
             Keyword::Amount => "amount A W..",
         }
     }
+
+    /// What is said to the words after this keyword.
+    fn answer(self, heap: Global, words: &[&str]) -> Result<Reply, AllocError>
+        ensures { IfOk result (λ x. Of self (texts words.now) tt tt (said x)) }
+    {
+        let form = self.form();
+        match self {
+            Keyword::Share => carry_out::<(), ShareLine>(heap, &mut (), words, form),
+            Keyword::Amount => carry_out::<(), AmountLine>(heap, &mut (), words, form),
+        }
+    }
 }
 
 /// What is said to a line of these words; none where its first word is no keyword of these.
 pub fn answer(heap: Global, words: &[&str]) -> Result<Option<Reply>, AllocError>
     ensures { IfOk result (λ o. Answered spelled Of (texts words.now) tt tt (option_map said o)) }
 {
-    let Some((keyword, rest)) = first_key::<Keyword>(words) else {
-        return Ok(None);
-    };
-    let form = keyword.form();
-    let reply = match keyword {
-        Keyword::Share => carry_out::<(), ShareLine>(heap, &mut (), rest, form)?,
-        Keyword::Amount => carry_out::<(), AmountLine>(heap, &mut (), rest, form)?,
-    };
-    Ok(Some(reply))
+    match first_key::<Keyword>(words) {
+        Some((keyword, rest)) => Ok(Some(keyword.answer(heap, rest)?)),
+        None => Ok(None),
+    }
 }

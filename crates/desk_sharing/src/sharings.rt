@@ -5,14 +5,13 @@ use crate::figures::{Shares, figures_of};
 use commands::{Command, Reply, Row, Then};
 use lines::Fault;
 use lines::fields::Field;
-use sharing::{share, share_amount};
+use sharing::{Fraction, share, share_amount};
 use std::alloc::{AllocError, Global};
 
 /// `share P Q V..`: the fraction P / Q of each of the claims V.
 #[derive(Drop)]
 pub struct ShareLine {
-    pub p: u64,
-    pub q: u64,
+    pub fraction: Fraction,
     pub claims: Vec<i64>,
 }
 
@@ -29,14 +28,16 @@ impl Command<()> for ShareLine {
                 rest: claims,
             },
         } = Then::<u64, Then<u64, Vec<i64>>>::read(heap, words)?;
-        Ok(ShareLine { p, q, claims })
+        let fraction = Fraction { p, q };
+        Ok(ShareLine { fraction, claims })
     }
 
     fn answer(&self, heap: Global, _state: &mut ()) -> Result<Reply, AllocError> {
         let mut figures = figures_of(heap, self.claims.as_slice())?;
-        match share(figures.as_mut_slice(), self.p, self.q) {
+        let claims = figures.as_mut_slice();
+        match share(claims, self.fraction) {
             Ok(total) => {
-                let shares = Shares(figures.as_slice());
+                let shares = Shares(claims);
                 Ok(Reply::Text(format!(in heap; "total {total} shares{shares}")?))
             }
             Err(refusal) => Ok(Reply::Refused(refusal)),
@@ -66,9 +67,10 @@ impl Command<()> for AmountLine {
 
     fn answer(&self, heap: Global, _state: &mut ()) -> Result<Reply, AllocError> {
         let mut figures = figures_of(heap, self.weights.as_slice())?;
-        match share_amount(figures.as_mut_slice(), self.amount) {
+        let claims = figures.as_mut_slice();
+        match share_amount(claims, self.amount) {
             Ok(()) => {
-                let shares = Shares(figures.as_slice());
+                let shares = Shares(claims);
                 Ok(Reply::Text(format!(in heap; "shares{shares}")?))
             }
             Err(refusal) => Ok(Reply::Refused(refusal)),

@@ -1,7 +1,9 @@
-use Rattle.std.proofs.Common.{rules, ◌≡◌, map, IfOk, Some, ℕ, ◌+◌, ◌-◌, ◌*◌, ◌<◌, ◌≤◌, length, ◌/◌, ◌%◌, Bool, true, false, nat_eq, nat_lt, List, [], ◌∷◌, ◌++◌, slice_index_or, slice_set, bit_and, bit_or, Fits, w8, w32, w64, Bor, MutBor}
-use Rattle.desk_sharing.specs.Figures.{told_by, held_by, listed}
+use Rattle.std.proofs.Common.{rules}
+use Rattle.std.proofs.lemmas.List.{map-id}
+use Rattle.std.proofs.lemmas.Iterator.{YieldsList-from_slice, YieldsList-from_map_by}
+use Rattle.std.proofs.lemmas.Iterator.Consumers.{map_from_collect, YieldsList-at}
+use Rattle.desk_sharing.specs.Figures.{told_by}
 use Rattle.desk_sharing.proofs.figures.figures_of.Goals as goal
 
--- src/figures.rt:42:1
 pub returns : goal.returns
-returns c = ?
+returns c = rw map-id at (map_from_collect c.collect.result c.collect.ensures.ran (YieldsList-from_map_by _ told_by (λ z. z) (YieldsList-at c.map.ensures.source (YieldsList-from_slice c.args.values.now c.iter.ensures.rest)) c.map.ensures.closure (λ x r q k. search rules)))
