@@ -1,8 +1,9 @@
 -- What is said to a line of words.
 use Rattle.std.specs.Prelude.{ℕ, List, Some, None, string_bytes, Option}
 use Rattle.commands.specs.Keys.{Keyed, Unkeyed}
+use Rattle.commands.specs.Refusals.{refused}
 use Rattle.commands.specs.declared.replies.Reply.{Reply}
-use Rattle.commands.specs.declared.replies.Reply.TheVariants.{Text, Unreadable}
+use Rattle.commands.specs.declared.replies.Reply.TheVariants.{Text, Refused, Unreadable}
 
 -- a text, or what was expected of a line that cannot be read
 pub data Said : Type 0 where
@@ -11,6 +12,7 @@ pub data Said : Type 0 where
 
 abbrev pub said : Reply → Said
 said (Text s) = text (string_bytes s)
+said (Refused r) = text (refused r)
 said (Unreadable u) = unread u.now
 
 -- the command that the words mean is carried out; where they mean none the state stays, and the form of the line is told

@@ -19,11 +19,7 @@ pub fn first_key<'a, 'b, K: Key>(words: &'a [&'b str]) -> Option<(K, &'a [&'b st
         (Unkeyed K.spelled (texts words.now))
         (λ x. Keyed K.spelled x.0 (texts x.1.now) (texts words.now)) }
 {
-    let Some((word, rest)) = words.split_first() else {
-        return None;
-    };
-    let Some(choice) = K::of(word) else {
-        return None;
-    };
+    let (word, rest) = words.split_first()?;
+    let choice = K::of(word)?;
     Some((choice, rest))
 }

@@ -4,14 +4,17 @@ ghost use Rattle.lines.specs.Readers.{Reads};
 ghost use Rattle.lines.specs.Words.{texts};
 ghost use Rattle.commands.specs.Replies.{Said, said, Replied};
 
+use kinds::Refusal;
 use lines::Fault;
 use std::alloc::{AllocError, Global};
 
 /// What is said to a line.
-#[derive(Drop)]
+#[derive(PartialEq, Eq, Debug, Drop)]
 pub enum Reply {
     /// The text that answers it.
     Text(String),
+    /// It is refused.
+    Refused(Refusal),
     /// It cannot be read, or not now: what was expected.
     Unreadable(&'static str),
 }
@@ -45,9 +48,7 @@ pub fn carry_out<S, C: Command<S> + Drop>(
 {
     match C::read(heap, words) {
         Ok(command) => command.answer(heap, state),
-        Err(fault) => match fault {
-            Fault::Memory => Err(AllocError),
-            Fault::Unreadable => Ok(Reply::Unreadable(form)),
-        },
+        Err(Fault::Memory) => Err(AllocError),
+        Err(Fault::Unreadable) => Ok(Reply::Unreadable(form)),
     }
 }

@@ -2,12 +2,12 @@
 use Rattle.std.specs.Prelude.{ℕ, List, ◌++◌, ℤ, codes}
 use Rattle.std.specs.List.{flat_map}
 use Rattle.std.specs.Fmt.{signed_decimal}
-use Rattle.desk_sharing.specs.declared.figures.Figure.{Figure}
+use Rattle.sharing.specs.declared.claims.Stake.{Stake}
 
-abbrev pub told_by : Figure → ℤ
+abbrev pub told_by : Stake ℤ ℤ → ℤ
 told_by c = c.value
 
-abbrev pub held_by : Figure → ℤ
+abbrev pub held_by : Stake ℤ ℤ → ℤ
 held_by c = c.share
 
 -- each number after a blank

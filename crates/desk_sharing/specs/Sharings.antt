@@ -16,12 +16,12 @@ use Rattle.desk_sharing.specs.declared.keywords.Keyword.TheVariants.{Share, Amou
 
 -- P, Q and then the claims
 abbrev pub ShareWords : List (List ℕ) → ShareLine → Type 0
-ShareWords ws x = First Natural x.p (First Natural x.q (λ vs. Each Number vs (vec_items x.claims))) ws
+ShareWords ws x = First Natural x.fraction.p (First Natural x.fraction.q (λ vs. Each Number vs (vec_items x.claims))) ws
 
 -- the total and the shares by the rule of sharing, or the limit that is passed
 pub data Shares (x : ShareLine) : Said → Type 0 where
-  given : (t : ℤ) (ss : List ℤ) → Limits x.p x.q (vec_items x.claims) → Shared x.p x.q (vec_items x.claims) ss t → Shares x (text (codes "total " ++ (signed_decimal t ++ (codes " shares" ++ listed ss))))
-  denied : (e : Refusal) → Breaks x.p x.q (vec_items x.claims) e → Shares x (text (refused e))
+  given : (t : ℤ) (ss : List ℤ) → Limits x.fraction.p x.fraction.q (vec_items x.claims) → Shared x.fraction.p x.fraction.q (vec_items x.claims) ss t → Shares x (text (codes "total " ++ (signed_decimal t ++ (codes " shares" ++ listed ss))))
+  denied : (e : Refusal) → Breaks x.fraction.p x.fraction.q (vec_items x.claims) e → Shares x (text (refused e))
 
 -- the amount and then the weights
 abbrev pub AmountWords : List (List ℕ) → AmountLine → Type 0

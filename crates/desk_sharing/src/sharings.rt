@@ -2,17 +2,16 @@
 ghost use Rattle.desk_sharing.specs.Sharings.{ShareWords, Shares, AmountWords, Amounts};
 
 use crate::figures::{Shares, figures_of};
-use commands::{Command, Reply, Row, Then, refused_text};
+use commands::{Command, Reply, Row, Then};
 use lines::Fault;
 use lines::fields::Field;
-use sharing::{share, share_amount};
+use sharing::{Fraction, share, share_amount};
 use std::alloc::{AllocError, Global};
 
 /// `share P Q V..`: the fraction P / Q of each of the claims V.
 #[derive(Drop)]
 pub struct ShareLine {
-    pub p: u64,
-    pub q: u64,
+    pub fraction: Fraction,
     pub claims: Vec<i64>,
 }
 
@@ -22,22 +21,26 @@ impl Command<()> for ShareLine {
     ghost does = { λ x _ _ s. Shares x s };
 
     fn read(heap: Global, words: &[&str]) -> Result<ShareLine, Fault> {
-        let Then { value: p, rest } = Then::<u64, Then<u64, Vec<i64>>>::read(heap, words)?;
         let Then {
-            value: q,
-            rest: claims,
-        } = rest;
-        Ok(ShareLine { p, q, claims })
+            value: p,
+            rest: Then {
+                value: q,
+                rest: claims,
+            },
+        } = Then::<u64, Then<u64, Vec<i64>>>::read(heap, words)?;
+        let fraction = Fraction { p, q };
+        Ok(ShareLine { fraction, claims })
     }
 
     fn answer(&self, heap: Global, _state: &mut ()) -> Result<Reply, AllocError> {
         let mut figures = figures_of(heap, self.claims.as_slice())?;
-        match share(figures.as_mut_slice(), self.p, self.q) {
+        let claims = figures.as_mut_slice();
+        match share(claims, self.fraction) {
             Ok(total) => {
-                let shares = Shares(figures.as_slice());
+                let shares = Shares(claims);
                 Ok(Reply::Text(format!(in heap; "total {total} shares{shares}")?))
             }
-            Err(refusal) => Ok(Reply::Text(refused_text(heap, refusal)?)),
+            Err(refusal) => Ok(Reply::Refused(refusal)),
         }
     }
 }
@@ -64,12 +67,13 @@ impl Command<()> for AmountLine {
 
     fn answer(&self, heap: Global, _state: &mut ()) -> Result<Reply, AllocError> {
         let mut figures = figures_of(heap, self.weights.as_slice())?;
-        match share_amount(figures.as_mut_slice(), self.amount) {
+        let claims = figures.as_mut_slice();
+        match share_amount(claims, self.amount) {
             Ok(()) => {
-                let shares = Shares(figures.as_slice());
+                let shares = Shares(claims);
                 Ok(Reply::Text(format!(in heap; "shares{shares}")?))
             }
-            Err(refusal) => Ok(Reply::Text(refused_text(heap, refusal)?)),
+            Err(refusal) => Ok(Reply::Refused(refusal)),
         }
     }
 }

@@ -7,5 +7,5 @@ pub mod quantities;
 pub mod refusals;
 
 pub use dates::{Date, Month};
-pub use quantities::{Cents, Energy, Metered};
+pub use quantities::{Cents, Energy, Kind, Metered};
 pub use refusals::Refusal;

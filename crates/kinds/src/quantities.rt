@@ -1,7 +1,8 @@
 //! Three kinds of whole number that are never taken for one another, each with the arithmetic
 //! that means something: only a rule turns one kind into another.
-ghost use Rattle.std.specs.Prelude.{◌≡◌, ◌+ℤ◌, ◌-ℤ◌, neg_ℤ, FitsSigned};
+ghost use Rattle.std.specs.Prelude.{◌≡◌, ℤ, ◌+ℤ◌, ◌-ℤ◌, neg_ℤ, FitsSigned};
 ghost use Rattle.std.specs.Int.{w64};
+ghost use Rattle.std.proofs.Common.{rules};
 
 use std::ops::{Add, Neg, Sub};
 
@@ -17,6 +18,91 @@ pub struct Energy(pub i64);
 #[derive(Clone, Copy, PartialEq, Eq, PartialOrd, Ord, Debug)]
 pub struct Cents(pub i64);
 
+/// A kind of whole number: each number is held by one value of the kind.
+pub trait Kind: Copy {
+    /// The number that it holds.
+    ghost number: { Self → ℤ };
+
+    /// The value that holds a number.
+    ghost of: { ℤ → Self };
+
+    fn number(self) -> i64
+        ensures { result ≡ number self };
+
+    fn of(n: i64) -> Self
+        ensures { result ≡ of n };
+
+    /// What is made of a number holds it.
+    ghost holds: { (n : ℤ) → number (of n) ≡ n };
+}
+
+/// A number of no kind.
+impl Kind for i64 {
+    ghost number = { λ x. x };
+
+    ghost of = { λ n. n };
+
+    ghost holds = { Prim.search rules };
+
+    fn number(self) -> i64 {
+        self
+    }
+
+    fn of(n: i64) -> i64 {
+        n
+    }
+}
+
+impl Kind for Metered {
+    ghost number = { λ m. m.0 };
+
+    ghost of = { λ n. record { 0 = n } };
+
+    ghost holds = { Prim.search rules };
+
+    fn number(self) -> i64 {
+        self.0
+    }
+
+    fn of(n: i64) -> Metered {
+        Metered(n)
+    }
+}
+
+impl Kind for Energy {
+    ghost number = { λ e. e.0 };
+
+    ghost of = { λ n. record { 0 = n } };
+
+    ghost holds = { Prim.search rules };
+
+    fn number(self) -> i64 {
+        self.0
+    }
+
+    fn of(n: i64) -> Energy {
+        Energy(n)
+    }
+}
+
+impl Kind for Cents {
+    ghost number = { λ c. c.0 };
+
+    ghost of = { λ n. record { 0 = n } };
+
+    ghost holds = { Prim.search rules };
+
+    fn number(self) -> i64 {
+        self.0
+    }
+
+    fn of(n: i64) -> Cents {
+        Cents(n)
+    }
+}
+
+// Sums, differences and minuses stay one by one: coherence allows no one impl for all kinds, and
+// the project has no macros of its own.
 impl Add<Metered> for Metered {
     type Output = Metered;
 

@@ -50,8 +50,8 @@ module _ {X Y : Type 0} (f : X → Y) (e : Y) where
   pub column_rest : (S : ℕ → Y) (xs : List X) (i : ℕ) (y : X) → ((k : ℕ) → i ≤ k → get_or (map f xs) k e ≡ S k) → (k : ℕ) → i + 1 ≤ k → get_or (map f (set xs i y)) k e ≡ S k
   column_rest S xs i y rest k m = rw map-set (get_or-set_other (map f xs) i k (f y) e (omega arith) ∙ rest k (omega arith))
 
-  pub column_kept : (xs : List X) (i : ℕ) (y : X) → f y ≡ get_or (map f xs) i e → map f (set xs i y) ≡ map f xs
-  column_kept xs i y h = map-set f xs i y ∙ ap (set (map f xs) i) h ∙ set-get_or (map f xs) i e
+  pub column_kept : (xs : List X) (i : ℕ) (y d : X) → i < length xs → f y ≡ f (get_or xs i d) → map f (set xs i y) ≡ map f xs
+  column_kept xs i y d l h = map-set f xs i y ∙ ap (set (map f xs) i) (h ∙ sym (get_or-map f xs i d e l)) ∙ set-get_or (map f xs) i e
 
   pub column_all : (xs : List X) (ys : List Y) → length xs ≡ length ys → ((k : ℕ) → k < length ys → get_or (map f xs) k e ≡ get_or ys k e) → map f xs ≡ ys
   column_all xs ys l h = ext_get_or e (map f xs) ys (length-map xs f ∙ l) (λ k m. h k (omega (arith, length-map xs f)))

@@ -1,10 +1,12 @@
 -- Sums over places.
-use Rattle.std.proofs.Common.{◌≡◌, ℕ, zero, suc, ◌+◌, ◌*◌, ◌<◌, ◌≤◌, List, [], ◌∷◌, length, ℤ, pos, ◌+ℤ◌, ◌*ℤ◌, nat_abs, ◌≤ℤ◌, ◌<ℤ◌, refl, ap, ◌∙◌, inl, inr, add-one, arith}
+use Rattle.std.proofs.Common.{◌≡◌, ℕ, zero, suc, ◌+◌, ◌*◌, ◌<◌, ◌≤◌, List, [], ◌∷◌, length, get_or, Bool, ℤ, pos, ◌+ℤ◌, ◌*ℤ◌, nat_abs, ◌≤ℤ◌, ◌<ℤ◌, refl, ap, ◌∙◌, inl, inr, add-one, arith}
 use borrow.Author.Differences.{sum_is_lem as split-sum}
 use Rattle.std.proofs.lemmas.Int.{ints}
+use Rattle.std.proofs.lemmas.List.Sums.{sum_by-cons}
 use Rattle.std.proofs.lemmas.Bool.{cases_lt}
 use Rattle.sharing.specs.Sharing.{at, sum, sizes}
-use Rattle.sharing.specs.Steps.{sum_to, total}
+use Rattle.std.specs.List.{count_by, enumerate_from}
+use Rattle.sharing.specs.Steps.{sum_to, total, bit, count}
 
 pub total_le : (n : ℕ) (f h : ℕ → ℕ) → ((k : ℕ) → k < n → f k ≤ h k) → total n f ≤ total n h
 total_le zero f h e = omega arith
@@ -91,3 +93,13 @@ total_front (suc n) f = omega (arith, total_front n f)
 pub sizes_is : (xs : List ℤ) → total (length xs) (λ k. nat_abs (at xs k)) ≡ sizes xs
 sizes_is [] = refl
 sizes_is (x ∷ xs) = total_front (length xs) (λ k. nat_abs (at (x ∷ xs) k)) ∙ ap (λ (z : ℕ). nat_abs x + z) (sizes_is xs)
+
+-- how many of a list pass a test that goes by their places too
+pub count_is : {X : Type 0} (test : ℕ × X → Bool) (f : ℕ → Bool) (xs : List X) (n : ℕ) → ((k m : ℕ) (d : X) → m ≡ n + k → k < length xs → test (m, get_or xs k d) ≡ f k)
+    → count_by test (enumerate_from n xs) ≡ count (length xs) f
+count_is test f [] n h = refl
+count_is test f (x ∷ xs) n h =
+    let e = count_is test (λ k. f (suc k)) xs (n + 1) (λ k m d s l. h (suc k) m d (omega arith) (omega arith)) in
+    let first : count_by test (enumerate_from n (x ∷ xs)) ≡ bit (test (n, x)) + count_by test (enumerate_from (n + 1) xs) = sum_by-cons (λ p. bit (test p)) (n, x) (enumerate_from (n + 1) xs) in
+    let same : bit (test (n, x)) ≡ bit (f 0) = ap bit (h 0 n x (omega arith) (omega arith)) in
+    omega (arith, total_front (length xs) (λ k. bit (f k)), e, first, same)

@@ -2,7 +2,7 @@
 ghost use Rattle.std.specs.Prelude.{◌≡◌, ℤ};
 ghost use Rattle.std.proofs.Common.{rules};
 
-use kinds::{Cents, Energy, Metered};
+use kinds::{Cents, Energy, Kind, Metered};
 
 /// Something that tells a signed whole number, and takes a share, which it then holds.
 pub trait Claim {
@@ -31,95 +31,45 @@ pub trait Claim {
     ghost tells: { (c : Self) (s : ℤ) → told (taking c s) ≡ told c };
 }
 
-/// A metered reading that takes a position at 25°.
-#[derive(Clone, Copy)]
-pub struct MeteredClaim {
-    pub reading: Metered,
-    pub position: Energy,
+/// A value of one kind, and the share of the same or another kind that it takes.
+#[derive(Clone, Copy, PartialEq, Eq, Debug)]
+pub struct Stake<V, S> {
+    pub value: V,
+    pub share: S,
 }
 
-impl Claim for MeteredClaim {
-    ghost told = { λ c. c.reading.0 };
+impl<V: Kind, S: Kind> Claim for Stake<V, S> {
+    ghost told = { λ c. V.number c.value };
 
-    ghost held = { λ c. c.position.0 };
+    ghost held = { λ c. S.number c.share };
 
-    ghost taking = { λ c s. record { reading = c.reading; position = record { 0 = s } } };
+    ghost taking = { λ c s. record { value = c.value; share = S.of s } };
 
-    ghost holds = { Prim.search rules };
+    ghost holds = { λ c s. S.holds s };
 
     ghost tells = { Prim.search rules };
 
     fn value(&self) -> i64 {
-        self.reading.0
+        self.value.number()
     }
 
     fn take(&mut self, share: i64) {
-        self.position = Energy(share);
+        self.share = S::of(share);
     }
 
     fn share(&self) -> i64 {
-        self.position.0
+        self.share.number()
     }
 }
+
+/// A metered reading that takes a position at 25°.
+pub type MeteredClaim = Stake<Metered, Energy>;
 
 /// An energy at 25° that takes a share of an energy.
-#[derive(Clone, Copy)]
-pub struct EnergyClaim {
-    pub energy: Energy,
-    pub share: Energy,
-}
-
-impl Claim for EnergyClaim {
-    ghost told = { λ c. c.energy.0 };
-
-    ghost held = { λ c. c.share.0 };
-
-    ghost taking = { λ c s. record { energy = c.energy; share = record { 0 = s } } };
-
-    ghost holds = { Prim.search rules };
-
-    ghost tells = { Prim.search rules };
-
-    fn value(&self) -> i64 {
-        self.energy.0
-    }
-
-    fn take(&mut self, share: i64) {
-        self.share = Energy(share);
-    }
-
-    fn share(&self) -> i64 {
-        self.share.0
-    }
-}
+pub type EnergyClaim = Stake<Energy, Energy>;
 
 /// A carried balance that takes a share of an amount in cents.
-#[derive(Clone, Copy)]
-pub struct CarriedClaim {
-    pub carried: Energy,
-    pub cents: Cents,
-}
+pub type CarriedClaim = Stake<Energy, Cents>;
 
-impl Claim for CarriedClaim {
-    ghost told = { λ c. c.carried.0 };
-
-    ghost held = { λ c. c.cents.0 };
-
-    ghost taking = { λ c s. record { carried = c.carried; cents = record { 0 = s } } };
-
-    ghost holds = { Prim.search rules };
-
-    ghost tells = { Prim.search rules };
-
-    fn value(&self) -> i64 {
-        self.carried.0
-    }
-
-    fn take(&mut self, share: i64) {
-        self.cents = Cents(share);
-    }
-
-    fn share(&self) -> i64 {
-        self.cents.0
-    }
-}
+/// A number of no kind that takes a number.
+pub type PlainClaim = Stake<i64, i64>;

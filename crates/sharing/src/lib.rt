@@ -3,9 +3,11 @@
 
 pub mod claims;
 mod dealing;
+mod fractions;
 mod limits;
 mod rows;
 mod shares;
 
-pub use claims::{CarriedClaim, Claim, EnergyClaim, MeteredClaim};
+pub use claims::{CarriedClaim, Claim, EnergyClaim, MeteredClaim, PlainClaim, Stake};
+pub use fractions::Fraction;
 pub use shares::{share, share_amount};

@@ -1,19 +1,9 @@
-use Rattle.std.proofs.Common.{[], ◌∷◌, ◌++◌, map, get_or, take, pos, is_ok, vec_items, sym, ap, ◌∙◌, w64, SFits, to_z, of_z, rules}
-use mathlib.Core.List.{map-append}
-use Rattle.std.proofs.ResultArms.{chosen}
-use Rattle.std.proofs.lemmas.List.{take_more, take_all}
-use Rattle.std.proofs.lemmas.Int.{to_z-of_z}
+use Rattle.std.proofs.Common.{rules}
+use Rattle.std.proofs.lemmas.List.{map-id}
+use Rattle.std.proofs.lemmas.Iterator.{YieldsList-from_slice, YieldsList-from_map_by}
+use Rattle.std.proofs.lemmas.Iterator.Consumers.{map_from_collect, YieldsList-at}
 use Rattle.desk_sharing.specs.Figures.{told_by}
 use Rattle.desk_sharing.proofs.figures.figures_of.Goals as goal
 
-pub loop-value-preserved : goal.loop-value-preserved
-loop-value-preserved c =
-    let vs = c.args.values.now in
-    let i = c.loop-value.value-index in
-    let fits : SFits w64 (get_or vs i (pos 0)) = search rules in
-    let pushed = chosen _ _ _ _ c.push.ensures.items (ap is_ok c.in_ok-push.was) in
-    ap (map told_by) pushed ∙ map-append told_by (vec_items c.loop-value.figures) _
-    ∙ ap (λ l. l ++ to_z w64 (of_z w64 (get_or vs i (pos 0))) ∷ []) c.loop-value.invariant ∙ ap (λ z. take i vs ++ z ∷ []) (to_z-of_z w64 _ fits) ∙ sym (take_more vs i (pos 0) c.loop-value-test.true)
-
 pub returns : goal.returns
-returns c = c.loop-value.invariant ∙ take_all c.loop-value.value-index c.args.values.now c.loop-value-test.false
+returns c = rw map-id at (map_from_collect c.collect.result c.collect.ensures.ran (YieldsList-from_map_by _ told_by (λ z. z) (YieldsList-at c.map.ensures.source (YieldsList-from_slice c.args.values.now c.iter.ensures.rest)) c.map.ensures.closure (λ x r q k. search rules)))

@@ -36,7 +36,7 @@ overflow_cast-result c =
       c.requires.bottom,
       c.divide-floor_sum.ensures.rest_sum,
       rests_within _ _ (values c.args.rows.now) c.requires (length c.args.rows.now) (omega arith),
-      div-le_self (2 * c.divide-floor_sum.result.1 + c.args.q) (2 * c.args.q),
+      div-le_self (2 * c.divide-floor_sum.result.1 + c.args.fraction.q) (2 * c.args.fraction.q),
     )
 
 -- the total that the code finds is the sum of the floors and what is lacking
@@ -44,24 +44,24 @@ total_is : (z s : ℤ) (r q k : ℕ) → z ≡ s → nat_abs s ≤ 9000000000000
     → (SFits w64 (to_z w64 (of_z w64 z) +ℤ to_z w64 k)) × (to_z w64 (of_z w64 (to_z w64 (of_z w64 z) +ℤ to_z w64 k)) ≡ s +ℤ pos k)
 total_is z s r q k e a b d f = (omega (arith, ints), omega (arith, ints))
 
-total_of : (c : goal.Joined-lacking-gt0) → let k = (2 * c.divide-floor_sum.result.1 + c.args.q) / (2 * c.args.q) in
+total_of : (c : goal.Joined-lacking-gt0) → let k = (2 * c.divide-floor_sum.result.1 + c.args.fraction.q) / (2 * c.args.fraction.q) in
     (SFits w64 (to_z w64 (of_z w64 c.divide-floor_sum.result.0) +ℤ to_z w64 k))
-    × (to_z w64 (of_z w64 (to_z w64 (of_z w64 c.divide-floor_sum.result.0) +ℤ to_z w64 k)) ≡ sum_to (length c.args.rows.now) (floors c.args.p c.args.q (values c.args.rows.now)) +ℤ pos k)
+    × (to_z w64 (of_z w64 (to_z w64 (of_z w64 c.divide-floor_sum.result.0) +ℤ to_z w64 k)) ≡ sum_to (length c.args.rows.now) (floors c.args.fraction.p c.args.fraction.q (values c.args.rows.now)) +ℤ pos k)
 total_of c =
     let vs = values c.args.rows.now in
     let n = length-map {A = Row} c.args.rows.now (λ r. r.value) in
     let m = length c.args.rows.now in
-    total_is _ _ c.divide-floor_sum.result.1 c.args.q _ c.divide-floor_sum.ensures.floor_sum (floors_within _ _ vs c.requires m (omega arith))
+    total_is _ _ c.divide-floor_sum.result.1 c.args.fraction.q _ c.divide-floor_sum.ensures.floor_sum (floors_within _ _ vs c.requires m (omega arith))
     (omega (arith, c.divide-floor_sum.ensures.rest_sum, rests_within _ _ vs c.requires m (omega arith))) c.requires.bottom
-    (div-le_self (2 * c.divide-floor_sum.result.1 + c.args.q) (2 * c.args.q))
+    (div-le_self (2 * c.divide-floor_sum.result.1 + c.args.fraction.q) (2 * c.args.fraction.q))
 
 pub overflow_add-result : goal.overflow_add-result
 overflow_add-result c = (total_of c).0
 
 pub returns : goal.returns
 returns c =
-    let p = c.args.p in
-    let q = c.args.q in
+    let p = c.args.fraction.p in
+    let q = c.args.fraction.q in
     let rs = c.args.rows.now in
     let ms = c.divide-floor_sum.new.rows in
     let zs = c.if-lacking-gt0.rows in

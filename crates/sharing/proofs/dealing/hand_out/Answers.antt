@@ -1,5 +1,5 @@
-use Rattle.std.proofs.Common.{◌≡◌, ℕ, ◌<◌, ltb, List, length, get_or, pos, ◌+ℤ◌, sym, ap, ◌∙◌, arith, w64, to_z, of_z, rules}
-use Rattle.std.proofs.lemmas.List.{get_or-map}
+use Rattle.std.proofs.Common.{Bool, true, false, ◌≡◌, ℕ, ◌<◌, ltb, List, length, get_or, pos, ◌+ℤ◌, refl, ap, ◌∙◌, arith, w64, to_z, of_z, rules}
+use Rattle.std.specs.Int.{from_bool}
 use Rattle.std.proofs.lemmas.Int.{ints}
 use Rattle.sharing.specs.declared.rows.Row.{Row}
 use Rattle.sharing.specs.Sharing.{at}
@@ -13,11 +13,10 @@ use Rattle.sharing.proofs.dealing.hand_out.Goals as goal
 same_rank : (rs os : List Row) (i : ℕ) → length rs ≡ length os → remainders rs ≡ remainders os → rank_of (length rs) (rest_at rs) i ≡ rank_of (length os) (rest_at os) i
 same_rank rs os i e h = ap (λ n. rank_of n (rest_at rs) i) e ∙ ap (λ xs. rank_of (length os) (λ k. get_or xs k 0) i) h
 
-pub overflow_add-rows : goal.overflow_add-rows
-overflow_add-rows c =
-    let i = c.loop-i.i in
-    let own = row_at (λ r. r.share) c.loop-i.rows i (shares c.args.rows.now) (omega arith) (c.loop-i.invariant.3 i (omega arith)) (search rules) in
-    omega (arith, ints, own, c.unit.ensures, bit_most (ltb (rank_of (length c.loop-i.rows) (rest_at c.loop-i.rows) i) c.args.lacking), c.requires i (omega arith))
+-- a unit is a test as a number
+unit_is : (b : Bool) → from_bool b ≡ bit b
+unit_is true = refl
+unit_is false = refl
 
 pub loop-i-preserved : goal.loop-i-preserved
 loop-i-preserved c =
@@ -27,12 +26,12 @@ loop-i-preserved c =
     let l : i < length rs = omega arith in
     let own = row_at (λ r. r.share) rs i (shares os) l (c.loop-i.invariant.3 i (omega arith)) (search rules) in
     let rank = same_rank rs os i c.loop-i.auto.rows c.loop-i.invariant.1 in
-    let unit : c.unit.result ≡ pos (bit (ltb (rank_of (length os) (rest_at os) i) c.args.lacking)) = c.unit.ensures ∙ ap (λ n. pos (bit (ltb n c.args.lacking))) rank in
+    let unit : c.from.result ≡ pos (bit (ltb (rank_of (length os) (rest_at os) i) c.args.lacking)) = c.from.ensures ∙ ap pos (unit_is _) ∙ ap (λ n. pos (bit (ltb n c.args.lacking))) (c.rank.ensures ∙ rank) in
     let most = bit_most (ltb (rank_of (length os) (rest_at os) i) c.args.lacking) in
     let small = c.requires i (omega arith) in
-    let due : to_z w64 (of_z w64 (to_z w64 (of_z w64 (get_or rs i nil).share) +ℤ to_z w64 (of_z w64 c.unit.result))) ≡ due_of (length os) (at (shares os)) (rest_at os) c.args.lacking i = omega (arith, ints) in (
-      column_kept {X = Row} (λ r. r.value) (pos 0) rs i _ (sym (get_or-map {X = Row} (λ r. r.value) rs i nil (pos 0) l)) ∙ c.loop-i.invariant.0,
-      column_kept {X = Row} (λ r. r.rest) 0 rs i _ (sym (get_or-map {X = Row} (λ r. r.rest) rs i nil 0 l)) ∙ c.loop-i.invariant.1,
+    let due : to_z w64 (of_z w64 (to_z w64 (of_z w64 (get_or rs i nil).share) +ℤ to_z w64 (of_z w64 c.from.result))) ≡ due_of (length os) (at (shares os)) (rest_at os) c.args.lacking i = omega (arith, ints) in (
+      column_kept {X = Row} (λ r. r.value) (pos 0) rs i _ nil l refl ∙ c.loop-i.invariant.0,
+      column_kept {X = Row} (λ r. r.rest) 0 rs i _ nil l refl ∙ c.loop-i.invariant.1,
       column_more {X = Row} (λ r. r.share) (pos 0) (due_of (length os) (at (shares os)) (rest_at os) c.args.lacking) rs i _ l c.loop-i.invariant.2 due,
       column_rest {X = Row} (λ r. r.share) (pos 0) (at (shares os)) rs i _ c.loop-i.invariant.3,
     )

@@ -4,7 +4,7 @@ use Rattle.sharing.specs.Amounts.{size}
 use Rattle.sharing.specs.Rows.{values}
 use Rattle.sharing.proofs.rows.by_size.Given as goal
 
-abbrev pub invariant-loop-i : goal.invariant-loop-i
-invariant-loop-i l =
-    ((k : ℕ) → k < l.i → at (values l.rows) k ≡ size (at (values l.initial.rows) k))
-    × ((k : ℕ) → l.i ≤ k → at (values l.rows) k ≡ at (values l.initial.rows) k)
+abbrev pub invariant-loop-row : goal.invariant-loop-row
+invariant-loop-row l =
+    ((k : ℕ) → k < l.row-index → at (values l.rows) k ≡ size (at (values l.initial.rows) k))
+    × ((k : ℕ) → l.row-index ≤ k → at (values l.rows) k ≡ at (values l.initial.rows) k)

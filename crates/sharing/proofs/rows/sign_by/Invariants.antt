@@ -3,7 +3,7 @@ use Rattle.sharing.specs.Sharing.{at}
 use Rattle.sharing.specs.Rows.{shares}
 use Rattle.sharing.proofs.rows.sign_by.Given as goal
 
-abbrev pub invariant-loop-i : goal.invariant-loop-i
-invariant-loop-i l =
-    ((k : ℕ) → k < l.i → at (shares l.rows) k ≡ neg_ℤ (at (shares l.initial.rows) k))
-    × ((k : ℕ) → l.i ≤ k → at (shares l.rows) k ≡ at (shares l.initial.rows) k)
+abbrev pub invariant-loop-row : goal.invariant-loop-row
+invariant-loop-row l =
+    ((k : ℕ) → k < l.row-index → at (shares l.rows) k ≡ neg_ℤ (at (shares l.initial.rows) k))
+    × ((k : ℕ) → l.row-index ≤ k → at (shares l.rows) k ≡ at (shares l.initial.rows) k)

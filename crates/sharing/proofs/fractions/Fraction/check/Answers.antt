@@ -1,6 +1,6 @@
 use Rattle.std.proofs.Common.{ℕ, ◌*◌, ap, inl, inr, arith}
 use Rattle.sharing.specs.Limits.{high, apart, wide}
-use Rattle.sharing.proofs.limits.check_fraction.Goals as goal
+use Rattle.sharing.proofs.fractions.Fraction.check.Goals as goal
 
 pub returns-then-p-gt20000000000 : goal.returns-then-p-gt20000000000
 returns-then-p-gt20000000000 c vs few small e = high few small c.if-p-gt20000000000.true
@@ -11,7 +11,7 @@ returns-then-q-eq0 c vs few small e =
 
 pub returns-then-p-sum-gt9000000000000000000 : goal.returns-then-p-sum-gt9000000000000000000
 returns-then-p-sum-gt9000000000000000000 c vs few small e =
-    wide few small c.if-p-gt20000000000.false (omega arith) c.if-q-gt1000000000000.false (omega (arith, ap (λ (n : ℕ). c.args.p * n) e))
+    wide few small c.if-p-gt20000000000.false (omega arith) c.if-q-gt1000000000000.false (omega (arith, ap (λ (n : ℕ). c.args.self.p * n) e))
 
 pub returns : goal.returns
 returns c vs few small e = record {
@@ -20,5 +20,5 @@ returns c vs few small e = record {
   top = c.if-p-gt20000000000.false;
   some = omega arith;
   bottom = c.if-q-gt1000000000000.false;
-  product = omega (arith, ap (λ (n : ℕ). c.args.p * n) e);
+  product = omega (arith, ap (λ (n : ℕ). c.args.self.p * n) e);
 }

@@ -2,12 +2,12 @@ use Rattle.std.proofs.Common.{◌≡◌, pos, ◌*ℤ◌, nat_abs, ap, ◌∙◌
 use Rattle.std.proofs.lemmas.Int.{ints, to_z-of_z}
 use Rattle.std.specs.Int.{int_rem_euclid}
 use Rattle.sharing.proofs.Division.{product_size}
-use Rattle.sharing.proofs.dealing.divided.Goals as goal
+use Rattle.sharing.proofs.fractions.Fraction.part_of.Goals as goal
 
 pub returns : goal.returns
 returns c =
-    let p = c.args.p in
-    let q = c.args.q in
+    let p = c.args.self.p in
+    let q = c.args.self.q in
     let v = c.args.v in
     let is-p : to_z w64 p ≡ pos p = omega (arith, ints) in
     let is-q : to_z w64 q ≡ pos q = omega (arith, ints) in
