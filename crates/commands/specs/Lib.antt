@@ -1,4 +1,3 @@
 pub mod Keys
-pub mod Dates
 pub mod Refusals
 pub mod Replies

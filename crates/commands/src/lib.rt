@@ -1,14 +1,12 @@
 //! Commands: how the words of a line are read into one, and what is said to it.
 #![tactic(auto)]
 
-pub mod dates;
 pub mod keys;
 pub mod refusals;
 pub mod replies;
 pub mod rows;
 
-pub use dates::{CalendarDate, DateText, MonthText};
 pub use keys::{Key, first_key};
 pub use refusals::refused_text;
 pub use replies::{Command, Reply, carry_out};
-pub use rows::{Row, Then};
+pub use rows::Row;

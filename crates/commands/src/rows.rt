@@ -38,18 +38,12 @@ impl<T: Field + Drop> Row for Vec<T> {
 }
 
 /// The value of the first word, and then a row.
-#[derive(Drop)]
-pub struct Then<T, R> {
-    pub value: T,
-    pub rest: R,
-}
+impl<T: Field + Drop, R: Row> Row for (T, R) {
+    ghost says = { λ ws x. First T.Field.writes x.0 (λ vs. R.Row.says vs x.1) ws };
 
-impl<T: Field + Drop, R: Row> Row for Then<T, R> {
-    ghost says = { λ ws x. First T.Field.writes x.value (λ vs. R.Row.says vs x.rest) ws };
-
-    fn read(heap: Global, words: &[&str]) -> Result<Then<T, R>, Fault> {
+    fn read(heap: Global, words: &[&str]) -> Result<(T, R), Fault> {
         let (value, words) = first::<T>(words)?;
         let rest = R::read(heap, words)?;
-        Ok(Then { value, rest })
+        Ok((value, rest))
     }
 }

@@ -5,7 +5,7 @@ use Rattle.rules.specs.Bands.{figures_of}
 use Rattle.rules.specs.declared.bands.Bands.{Bands}
 use Rattle.rules.specs.declared.bands.parts.BandFigures.{BandFigures}
 use Rattle.lines.specs.Fields.{First}
-use Rattle.commands.specs.Dates.{CalendarWord}
+use Rattle.lines.specs.Dates.{CalendarWord}
 use Rattle.commands.specs.Replies.{Said, text}
 use Rattle.desk_bands.specs.Setting.{InHand, on}
 use Rattle.desk_bands.specs.declared.asking.AskLine.{AskLine}
@@ -15,7 +15,7 @@ ask_form = codes "ask bands YYYY-MM-DD"
 
 -- a date of the calendar
 abbrev pub AskWords : List (List ℕ) → AskLine → Type 0
-AskWords ws x = First (λ w d. CalendarWord w d.date) x.date (λ vs. vs ≡ []) ws
+AskWords ws x = First CalendarWord x.date (λ vs. vs ≡ []) ws
 
 -- the five figures, each after a blank
 abbrev pub figured : BandFigures → List ℕ
@@ -28,4 +28,4 @@ shown (Some b) = figured (figures_of b)
 
 -- the bands of the date are shown; the rule has on each date what it had
 abbrev pub Asked : AskLine → InHand → InHand → Said → Type 0
-Asked x before after y = ((d : Date) → on after d ≡ on before d) × (y ≡ text (shown (on before x.date.date)))
+Asked x before after y = ((d : Date) → on after d ≡ on before d) × (y ≡ text (shown (on before x.date)))

@@ -7,7 +7,7 @@ use Rattle.terms.specs.Tolerance.{thousandths, Ends}
 use Rattle.terms.specs.declared.tolerance.Perimeter.{Perimeter}
 use Rattle.terms.specs.declared.tolerance.Perimeter.TheVariants.{NorthB, NorthH, South}
 use Rattle.lines.specs.Fields.{NaturalBelow, First, Each}
-use Rattle.commands.specs.Dates.{MonthWord}
+use Rattle.lines.specs.Dates.{MonthWord}
 use Rattle.commands.specs.Refusals.{refused}
 use Rattle.commands.specs.Replies.{Said, text}
 use Rattle.desk_bands.specs.declared.bases.BaseLine.{BaseLine}
@@ -23,11 +23,11 @@ PerimeterWord w p = w ≡ named p
 
 -- the month, the capacity, the monthly capacity and then the allocations
 abbrev pub BaseWords : List (List ℕ) → BaseLine → Type 0
-BaseWords ws x = First (λ w m. MonthWord w m.0) x.month (First (NaturalBelow 32) x.capacity (First (NaturalBelow 32) x.monthly (λ vs. Each (NaturalBelow 32) vs (vec_items x.allocations)))) ws
+BaseWords ws x = First MonthWord x.month (First (NaturalBelow 32) x.capacity (First (NaturalBelow 32) x.monthly (λ vs. Each (NaturalBelow 32) vs (vec_items x.allocations)))) ws
 
 pub data BaseSaid (x : BaseLine) : Said → Type 0 where
-  based : (b : ℕ) → Based x.month.0 x.capacity x.monthly (vec_items x.allocations) b → BaseSaid x (text (codes "base " ++ decimal b))
-  denied : (e : Refusal) → Baseless x.month.0 x.capacity x.monthly (vec_items x.allocations) e → BaseSaid x (text (refused e))
+  based : (b : ℕ) → Based x.month x.capacity x.monthly (vec_items x.allocations) b → BaseSaid x (text (codes "base " ++ decimal b))
+  denied : (e : Refusal) → Baseless x.month x.capacity x.monthly (vec_items x.allocations) e → BaseSaid x (text (refused e))
 
 -- the perimeter and the base
 abbrev pub ToleranceWords : List (List ℕ) → ToleranceLine → Type 0

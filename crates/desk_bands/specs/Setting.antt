@@ -11,13 +11,14 @@ use Rattle.rules.specs.declared.rules.Either.TheVariants.{This, That}
 use Rattle.rules.specs.declared.rules.Fixed.{Fixed}
 use Rattle.terms.specs.PriceRules.{on_day}
 use Rattle.terms.specs.Schedule.{Unfit, Scheduled}
-use Rattle.terms.specs.declared.schedule.Terms.{Terms}
 use Rattle.std.specs.Int.{w16}
 use Rattle.lines.specs.Fields.{NaturalBelow, NumberWithin, Missing, First, Each}
-use Rattle.commands.specs.Dates.{MonthWord}
+use Rattle.lines.specs.Dates.{MonthWord}
 use Rattle.commands.specs.Refusals.{refused}
 use Rattle.commands.specs.Replies.{Said, text}
 use Rattle.desk_bands.specs.Bases.{PerimeterWord}
+use Rattle.terms.specs.declared.tolerance.Perimeter.{Perimeter}
+use Rattle.desk_bands.specs.declared.bases.PerimeterName.{PerimeterName}
 use Rattle.desk_bands.specs.declared.setting.FixedLine.{FixedLine}
 use Rattle.desk_bands.specs.declared.setting.ScheduleLine.{ScheduleLine}
 
@@ -54,16 +55,16 @@ pub data FixedSet (x : FixedLine) (before : InHand) : InHand → Said → Type 0
   set : (r : InHand) → Always x.figures r → FixedSet x before r ok
   denied : (e : Refusal) → Misfit x.figures e → FixedSet x before before (text (refused e))
 
+abbrev by_name : Perimeter → PerimeterName
+by_name p = record { 0 = p }
+
 -- the month, the perimeter and the terms in order, and then a forecast or a dash for each day
 abbrev pub ScheduleWords : List (List ℕ) → ScheduleLine → Type 0
 ScheduleWords ws x =
-    First (λ w m. MonthWord w m.0) x.month (First (λ w p. PerimeterWord w p.0) x.perimeter (First (NaturalBelow 32) x.base (First (NaturalBelow 8) x.optional
-    (First (NumberWithin w16) x.threshold (First (NumberWithin w16) x.limit (First (NaturalBelow 8) x.talon (λ vs. Each (Missing (NumberWithin w16)) vs (vec_items x.forecasts)))))))) ws
-
-abbrev pub terms_of : ScheduleLine → Terms
-terms_of x = record { month = x.month.0; perimeter = x.perimeter.0; base = x.base; optional = x.optional; threshold = x.threshold; limit = x.limit; talon = x.talon }
+    First MonthWord x.terms.month (First (λ w p. PerimeterWord w p.0) (by_name x.terms.perimeter) (First (NaturalBelow 32) x.terms.base (First (NaturalBelow 8) x.terms.optional
+    (First (NumberWithin w16) x.terms.threshold (First (NumberWithin w16) x.terms.limit (First (NaturalBelow 8) x.terms.talon (λ vs. Each (Missing (NumberWithin w16)) vs (vec_items x.forecasts)))))))) ws
 
 -- the schedule of the terms; refused, the rule stays
 pub data ScheduleSet (x : ScheduleLine) (before : InHand) : InHand → Said → Type 0 where
-  set : (m : Monthly Bands) → Scheduled (terms_of x) (vec_items x.forecasts) m.month (vec_items m.days) → ScheduleSet x before (That m) ok
-  denied : (e : Refusal) → Unfit (terms_of x) (vec_items x.forecasts) e → ScheduleSet x before before (text (refused e))
+  set : (m : Monthly Bands) → Scheduled x.terms (vec_items x.forecasts) m.month (vec_items m.days) → ScheduleSet x before (That m) ok
+  denied : (e : Refusal) → Unfit x.terms (vec_items x.forecasts) e → ScheduleSet x before before (text (refused e))

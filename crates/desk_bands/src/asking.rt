@@ -5,7 +5,8 @@ ghost use Rattle.commands.specs.Replies.{said, Replied};
 ghost use Rattle.desk_bands.specs.Asking.{AskWords, Asked, ask_form};
 
 use crate::setting::InHand;
-use commands::{CalendarDate, Command, Reply, Row, Then, carry_out};
+use commands::{Command, Reply, Row, carry_out};
+use kinds::Date;
 use lines::{Fault, Field};
 use rules::rules::BandRule;
 use std::alloc::{AllocError, Global};
@@ -13,7 +14,7 @@ use std::alloc::{AllocError, Global};
 /// `ask bands YYYY-MM-DD`: the bands of a date.
 #[derive(Drop)]
 pub struct AskLine {
-    pub date: CalendarDate,
+    pub date: Date,
 }
 
 impl Command<InHand> for AskLine {
@@ -22,12 +23,12 @@ impl Command<InHand> for AskLine {
     ghost does = { Asked };
 
     fn read(heap: Global, words: &[&str]) -> Result<AskLine, Fault> {
-        let row = Then::<CalendarDate, ()>::read(heap, words)?;
-        Ok(AskLine { date: row.value })
+        let (date, ()) = <(Date, ())>::read(heap, words)?;
+        Ok(AskLine { date })
     }
 
     fn answer(&self, heap: Global, hand: &mut InHand) -> Result<Reply, AllocError> {
-        let Some(bands) = hand.bands(self.date.date) else {
+        let Some(bands) = hand.bands(self.date) else {
             return Ok(Reply::Text(format!(in heap; "no bands")?));
         };
         let figures = bands.figures();

@@ -2,13 +2,15 @@
 ghost use Rattle.std.specs.Prelude.{◌≡◌};
 ghost use Rattle.desk_bands.specs.Bases.{PerimeterWord, BaseWords, BaseSaid, ToleranceWords, ToleranceSaid};
 
-use commands::{Command, MonthText, Reply, Row, Then, refused_text};
+use commands::{Command, Reply, Row, refused_text};
+use kinds::Month;
 use lines::{Fault, Field};
 use std::alloc::{AllocError, Global};
 use terms::Perimeter;
 use terms::base::base;
 
 /// A perimeter by its word.
+// A struct of its own: neither `Perimeter` nor `Field` is of this crate.
 #[derive(Clone, Copy)]
 pub struct PerimeterName(pub Perimeter);
 
@@ -28,7 +30,7 @@ impl Field for PerimeterName {
 /// `base YYYY-MM CAPACITY MONTHLY ALLOCATION..`: the base of a month.
 #[derive(Drop)]
 pub struct BaseLine {
-    pub month: MonthText,
+    pub month: Month,
     pub capacity: u32,
     pub monthly: u32,
     pub allocations: Vec<u32>,
@@ -40,17 +42,8 @@ impl<S> Command<S> for BaseLine {
     ghost does = { λ x s t y. (t ≡ s) × BaseSaid x y };
 
     fn read(heap: Global, words: &[&str]) -> Result<BaseLine, Fault> {
-        let Then { value: month, rest } = Then::<MonthText, Then<u32, Then<u32, Vec<u32>>>>::read(
-            heap, words,
-        )?;
-        let Then {
-            value: capacity,
-            rest,
-        } = rest;
-        let Then {
-            value: monthly,
-            rest: allocations,
-        } = rest;
+        let (month, (capacity, (monthly, allocations))) =
+            <(Month, (u32, (u32, Vec<u32>)))>::read(heap, words)?;
         Ok(BaseLine {
             month,
             capacity,
@@ -61,7 +54,7 @@ impl<S> Command<S> for BaseLine {
 
     fn answer(&self, heap: Global, _state: &mut S) -> Result<Reply, AllocError> {
         match base(
-            self.month.0,
+            self.month,
             self.capacity,
             self.monthly,
             self.allocations.as_slice(),
@@ -85,14 +78,8 @@ impl<S> Command<S> for ToleranceLine {
     ghost does = { λ x s t y. (t ≡ s) × ToleranceSaid x y };
 
     fn read(heap: Global, words: &[&str]) -> Result<ToleranceLine, Fault> {
-        let Then {
-            value: perimeter,
-            rest,
-        } = Then::<PerimeterName, Then<u32, ()>>::read(heap, words)?;
-        Ok(ToleranceLine {
-            perimeter,
-            base: rest.value,
-        })
+        let (perimeter, (base, ())) = <(PerimeterName, (u32, ()))>::read(heap, words)?;
+        Ok(ToleranceLine { perimeter, base })
     }
 
     fn answer(&self, heap: Global, _state: &mut S) -> Result<Reply, AllocError> {

@@ -1,9 +1,10 @@
 //! The lines that set the band rule in hand.
 ghost use Rattle.std.specs.Prelude.{◌≡◌, []};
-ghost use Rattle.desk_bands.specs.Setting.{NoneSet, ZeroSet, FixedWords, FixedSet, ScheduleWords, terms_of, ScheduleSet};
+ghost use Rattle.desk_bands.specs.Setting.{NoneSet, ZeroSet, FixedWords, FixedSet, ScheduleWords, ScheduleSet};
 
 use crate::bases::PerimeterName;
-use commands::{Command, MonthText, Reply, Row, Then, refused_text};
+use commands::{Command, Reply, Row, refused_text};
+use kinds::Month;
 use lines::{Fault, Field};
 use rules::bands::Bands;
 use rules::bands::parts::BandFigures;
@@ -69,14 +70,15 @@ impl Command<InHand> for FixedLine {
     ghost does = { FixedSet };
 
     fn read(heap: Global, words: &[&str]) -> Result<FixedLine, Fault> {
-        let row = Then::<u32, Then<u32, Then<u32, Then<u32, Then<u32, ()>>>>>::read(heap, words)?;
+        let (lower_allowed, (lower_cumulable, (upper_cumulable, (upper_allowed, (carry_limit, ()))))) =
+            <(u32, (u32, (u32, (u32, (u32, ())))))>::read(heap, words)?;
         Ok(FixedLine {
             figures: BandFigures {
-                lower_allowed: row.value,
-                lower_cumulable: row.rest.value,
-                upper_cumulable: row.rest.rest.value,
-                upper_allowed: row.rest.rest.rest.value,
-                carry_limit: row.rest.rest.rest.rest.value,
+                lower_allowed,
+                lower_cumulable,
+                upper_cumulable,
+                upper_allowed,
+                carry_limit,
             },
         })
     }
@@ -95,32 +97,18 @@ impl Command<InHand> for FixedLine {
 /// `bands schedule YYYY-MM PERIMETER BASE TOE THRESHOLD LIMIT TALON FORECAST..`: a month's schedule.
 #[derive(Drop)]
 pub struct ScheduleLine {
-    pub month: MonthText,
-    pub perimeter: PerimeterName,
-    pub base: u32,
-    pub optional: u8,
-    pub threshold: i16,
-    pub limit: i16,
-    pub talon: u8,
+    pub terms: Terms,
     pub forecasts: Vec<Option<i16>>,
 }
 
-impl ScheduleLine {
-    /// The terms of the schedule.
-    fn terms(&self) -> Terms
-        ensures { result ≡ terms_of self.now }
-    {
-        Terms {
-            month: self.month.0,
-            perimeter: self.perimeter.0,
-            base: self.base,
-            optional: self.optional,
-            threshold: self.threshold,
-            limit: self.limit,
-            talon: self.talon,
-        }
-    }
-}
+/// The words that write the terms of a schedule, and then those of its forecasts.
+type ScheduleRow = (
+    Month,
+    (
+        PerimeterName,
+        (u32, (u8, (i16, (i16, (u8, Vec<Option<i16>>))))),
+    ),
+);
 
 impl Command<InHand> for ScheduleLine {
     ghost means = { ScheduleWords };
@@ -128,53 +116,30 @@ impl Command<InHand> for ScheduleLine {
     ghost does = { ScheduleSet };
 
     fn read(heap: Global, words: &[&str]) -> Result<ScheduleLine, Fault> {
-        let Then { value: month, rest } = Then::<
-            MonthText,
-            Then<
-                PerimeterName,
-                Then<u32, Then<u8, Then<i16, Then<i16, Then<u8, Vec<Option<i16>>>>>>>,
-            >,
-        >::read(heap, words)?;
-        let Then {
-            value: perimeter,
-            rest,
-        } = rest;
-        let Then { value: base, rest } = rest;
-        let Then {
-            value: optional,
-            rest,
-        } = rest;
-        let Then {
-            value: threshold,
-            rest,
-        } = rest;
-        let Then { value: limit, rest } = rest;
-        let Then {
-            value: talon,
-            rest: forecasts,
-        } = rest;
+        let (month, (perimeter, (base, (optional, (threshold, (limit, (talon, forecasts))))))) =
+            ScheduleRow::read(heap, words)?;
         Ok(ScheduleLine {
-            month,
-            perimeter,
-            base,
-            optional,
-            threshold,
-            limit,
-            talon,
+            terms: Terms {
+                month,
+                perimeter: perimeter.0,
+                base,
+                optional,
+                threshold,
+                limit,
+                talon,
+            },
             forecasts,
         })
     }
 
     fn answer(&self, heap: Global, hand: &mut InHand) -> Result<Reply, AllocError> {
-        match schedule(heap, self.terms(), self.forecasts.as_slice()) {
+        match schedule(heap, self.terms, self.forecasts.as_slice()) {
             Ok(rule) => {
                 *hand = Either::That(rule);
                 Ok(Reply::Text(format!(in heap; "ok")?))
             }
-            Err(error) => match error {
-                RuleError::Memory => Err(AllocError),
-                RuleError::Refused(refusal) => Ok(Reply::Text(refused_text(heap, refusal)?)),
-            },
+            Err(RuleError::Memory) => Err(AllocError),
+            Err(RuleError::Refused(refusal)) => Ok(Reply::Text(refused_text(heap, refusal)?)),
         }
     }
 }

@@ -62,15 +62,6 @@ split_words bs (Some x) h =
     let found = h.2 blank (λ _. refl) in
     (rw (h.3, h.4) (words_cut bs h.0 h.1 found), omega (arith, found.1.2.ends, (len_utf8_bounds found.1.0).0))
 
-whole : (bs : List ℕ) → (length bs ≡ 0 → ⊥) → bs ∷ [] ≡ kept bs
-whole [] some = absurd (some refl)
-whole (b ∷ bs) some = refl
-
--- what a `push` of a word that is not empty leaves
-pub push_kept : {E : Type 0} (r : Result (Unit {0}) E) (os ns : List (Bor (List ℕ))) (w : Bor (List ℕ)) → ns ≡ cond (is_ok r) (os ++ w ∷ []) os → (length w.now ≡ 0 → ⊥) → IfOk r (λ _. texts ns ≡ texts os ++ kept w.now)
-push_kept (Ok x) os ns w e some = ap texts e ∙ map-append (λ w. w.now) os (w ∷ []) ∙ ap (λ l. texts os ++ l) (whole w.now some)
-push_kept (Err y) os ns w e some = tt
-
 -- a turn of the loop: the words so far and those of the rest stay the same
 pub turn : (done more ws rest next all : List (List ℕ)) → more ≡ done ++ ws → rest ≡ ws ++ next → done ++ rest ≡ all → more ++ next ≡ all
 turn done more ws rest next all p q e = rw (p, append_assoc done ws next, ← q) e

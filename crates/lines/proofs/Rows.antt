@@ -8,9 +8,6 @@ module _ {X : Type 0} {R : List ℕ → X → Type 0} where
   pub begins : {x : X} {P : List (List ℕ) → Type 0} {ws : List (List ℕ)} → First R x P ws → First R x (λ _. Unit {0}) ws
   begins h = record { word = h.word; rest = h.rest; split = h.split; writes = h.writes; after = tt }
 
-  pub head : {x : X} {P : List (List ℕ) → Type 0} {w : List ℕ} {us ws : List (List ℕ)} → ws ≡ w ∷ us → First R x P ws → R w x
-  head {x = x} {w = w} e h = let same : h.word ≡ w = cc in subst (λ v. R v x) same h.writes
-
   -- us stand after the first word: what is right of them, and of all
   pub next : {x y : X} {P : List (List ℕ) → Type 0} {us ws : List (List ℕ)} → First R x (λ vs. vs ≡ us) ws → First R y P ws → P us
   next {P = P} {us = us} h k = let same : k.rest ≡ us = cc in subst P same k.after

@@ -3,21 +3,19 @@ use Rattle.std.specs.Prelude.{◌≡◌, ℕ, ◌^◌, ◌<◌, List, [], ◌∷
 use Rattle.std.specs.Int.{Width, w64}
 use Rattle.std.specs.Str.Parse.{IsNumeral, digits_value, without_leading_plus, without_leading_sign, signed_digits_value}
 
--- decimal digits after a plus or none, below 2 ^ 64
-abbrev pub Natural : List ℕ → ℕ → Type 0
-Natural w n = (IsNumeral 10 (without_leading_plus w) × (digits_value 10 (without_leading_plus w) < 2 ^ 64)) × (n ≡ digits_value 10 (without_leading_plus w))
-
--- the same, below another power of two
+-- decimal digits after a plus or none, below a power of two
 abbrev pub NaturalBelow : ℕ → List ℕ → ℕ → Type 0
 NaturalBelow bits w n = (IsNumeral 10 (without_leading_plus w) × (digits_value 10 (without_leading_plus w) < 2 ^ bits)) × (n ≡ digits_value 10 (without_leading_plus w))
 
--- decimal digits after a sign or none, that an i64 holds
-abbrev pub Number : List ℕ → ℤ → Type 0
-Number w z = (IsNumeral 10 (without_leading_sign w) × FitsSigned w64 (signed_digits_value 10 w)) × (z ≡ signed_digits_value 10 w)
+abbrev pub Natural : List ℕ → ℕ → Type 0
+Natural = NaturalBelow 64
 
--- the same, that a signed number of another width holds
+-- decimal digits after a sign or none, that a signed number of the width holds
 abbrev pub NumberWithin : Width → List ℕ → ℤ → Type 0
 NumberWithin width w z = (IsNumeral 10 (without_leading_sign w) × FitsSigned width (signed_digits_value 10 w)) × (z ≡ signed_digits_value 10 w)
+
+abbrev pub Number : List ℕ → ℤ → Type 0
+Number = NumberWithin w64
 
 -- a value, or a dash where there is none
 abbrev pub Missing : {X : Type 0} → (List ℕ → X → Type 0) → List ℕ → Option X → Type 0

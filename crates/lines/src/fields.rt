@@ -9,8 +9,8 @@ ghost use Rattle.lines.specs.declared.fields.Fault.TheVariants.{Memory, Unreadab
 use std::alloc::{AllocError, AllocFailed, Global};
 use std::num::ParseIntError;
 
-/// Why nothing was read.
-#[derive(Clone, Copy)]
+/// Why nothing was read: memory failed, or no word writes such a value.
+#[derive(Clone, Copy, PartialEq, Eq, Debug)]
 pub enum Fault {
     Memory,
     Unreadable,

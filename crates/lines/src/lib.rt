@@ -1,6 +1,7 @@
 //! The words of a line, and the values that they write.
 #![tactic(auto)]
 
+pub mod dates;
 pub mod fields;
 pub mod words;
 

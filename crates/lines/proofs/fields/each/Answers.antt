@@ -1,5 +1,5 @@
 use Rattle.lines.proofs.Exits.{pass}
-use Rattle.lines.proofs.Rows.{each_at, each_more, each_all}
+use Rattle.lines.proofs.Rows.{each_at, each_more}
 use Rattle.lines.proofs.fields.each.Goals as goal
 
 pub returns-in_err-read : goal.returns-in_err-read
@@ -9,6 +9,3 @@ returns-in_err-read g c =
 pub loop-word-preserved : goal.loop-word-preserved
 loop-word-preserved g c =
     rw c.in_ok-push.ensures.items (each_more _ c.args.words.now _ c.loop-word.word-index _ _ c.loop-word-test.true c.loop-word.invariant c.in_ok-read.ensures)
-
-pub returns : goal.returns
-returns g c = each_all _ c.args.words.now _ c.loop-word.word-index c.loop-word-test.false c.loop-word.invariant

@@ -3,8 +3,9 @@ use Rattle.std.proofs.Common.{◌≡◌, ℕ, zero, suc, ◌+◌, ◌*◌, ◌/�
 use Rattle.kinds.specs.declared.dates.Date.{Date}
 use Rattle.kinds.specs.declared.dates.Month.{Month}
 use Rattle.kinds.proofs.Days.{same_date}
-use Rattle.commands.specs.Dates.{padded, monthly, Pair, Monthly, DateWord}
-use Rattle.commands.proofs.Digits.{padded_two}
+use Rattle.kinds.specs.Texts.{padded, monthly}
+use Rattle.lines.specs.Dates.{Pair, Monthly, DateWord}
+use Rattle.lines.proofs.Digits.{padded_two}
 
 -- the bytes at two places
 abbrev pub pair : List ℕ → ℕ → ℕ → List ℕ
@@ -60,24 +61,8 @@ month_back w c y m l dash g h k =
       text = seven w l ∙ same_parts _ _ _ _ _ _ _ _ (g.1 ∙ ap padded (sym high)) (h.1 ∙ ap padded (sym low)) dash k.1;
     }
 
-abbrev month_of : Date → Month
+abbrev pub month_of : Date → Month
 month_of d = record { year = d.year; month = d.month }
-
--- the bytes up to a place, that at it and those after it
-cut : (w : List ℕ) (n : ℕ) → n < length w → w ≡ take n w ++ (get_or w n 0 ∷ drop (suc n) w)
-cut [] n l = absurd (omega (arith, l))
-cut (a ∷ w) zero l = refl
-cut (a ∷ w) (suc n) l = ap (λ v. a ∷ v) (cut w n (omega (arith, l)))
-
-last_two : (w : List ℕ) (n : ℕ) → length w ≡ n + 2 → drop n w ≡ get_or w n 0 ∷ get_or w (suc n) 0 ∷ []
-last_two (a ∷ b ∷ []) zero l = refl
-last_two [] n l = absurd (omega (arith, l))
-last_two (a ∷ []) zero l = absurd (omega (arith, l))
-last_two (a ∷ b ∷ c ∷ w) zero l = absurd (omega (arith, l))
-last_two (a ∷ w) (suc n) l = last_two w n (omega (arith, l))
-
-ten : (w : List ℕ) → length w ≡ 10 → w ≡ take 7 w ++ (get_or w 7 0 ∷ pair w 8 9)
-ten w l = cut w 7 (omega (arith, l)) ∙ ap (λ v. take 7 w ++ (get_or w 7 0 ∷ v)) (last_two w 8 l)
 
 -- where a date is written
 pub record DateBytes (w : List ℕ) (d : Date) : Type 0 where
@@ -123,9 +108,3 @@ one_date w d e g h =
     let b = date_bytes w e h in
     let m = one_month _ _ _ a.month b.month in
     same_date d e m.year m.month (one_pair _ _ _ a.day b.day)
-
-same_ends : (a p c r : List ℕ) (x y : ℕ) → a ≡ p → x ≡ y → c ≡ r → a ++ (x ∷ c) ≡ p ++ (y ∷ r)
-same_ends a p c r x y e f g = rw (e, f, g) refl
-
-pub date_back : (w : List ℕ) (m : Month) (d : ℕ) → length w ≡ 10 → get_or w 7 0 ≡ 45 → Monthly (take 7 w) m → Pair (pair w 8 9) d → DateWord w (record { year = m.year; month = m.month; day = d })
-date_back w m d l dash h k = record { year = h.year; month = h.month; day = k.0; text = ten w l ∙ same_ends _ _ _ _ _ _ h.text dash k.1 }

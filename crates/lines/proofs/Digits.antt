@@ -1,7 +1,8 @@
 -- Numbers of two digits.
 use Rattle.std.proofs.Common.{◌≡◌, ℕ, ◌+◌, ◌*◌, ◌/◌, ◌%◌, ◌<◌, [], ◌∷◌, get_or, refl, ap, ◌∙◌, arith}
 use Rattle.std.proofs.lemmas.Fmt.{decimal_digit}
-use Rattle.commands.specs.Dates.{padded, Digit, Pair}
+use Rattle.kinds.specs.Texts.{padded}
+use Rattle.lines.specs.Dates.{Digit, Pair}
 
 pub padded_two : (n : ℕ) → n < 100 → padded n ≡ (48 + n / 10) ∷ (48 + n % 10) ∷ []
 padded_two n h = rw (decimal_digit (n / 10) (omega arith), decimal_digit (n % 10) (omega arith)) refl

@@ -1,20 +1,9 @@
--- How a month and a date are written, and the words that write them.
-use Rattle.std.specs.Prelude.{◌≡◌, ℕ, ◌+◌, ◌/◌, ◌%◌, ◌<◌, ◌≤◌, List, ◌++◌, codes, decimal}
+-- The words that write a month and a date.
+use Rattle.std.specs.Prelude.{◌≡◌, ℕ, ◌+◌, ◌<◌, ◌≤◌, List}
 use Rattle.kinds.specs.declared.dates.Date.{Date}
 use Rattle.kinds.specs.declared.dates.Month.{Month}
 use Rattle.kinds.specs.Calendar.{Exists}
-
--- a number with two digits at least
-abbrev pub padded : ℕ → List ℕ
-padded n = decimal (n / 10) ++ decimal (n % 10)
-
--- YYYY-MM
-abbrev pub monthly : ℕ → ℕ → List ℕ
-monthly year month = padded (year / 100) ++ (padded (year % 100) ++ (codes "-" ++ padded month))
-
--- YYYY-MM-DD
-abbrev pub dated : Date → List ℕ
-dated d = monthly d.year d.month ++ (codes "-" ++ padded d.day)
+use Rattle.kinds.specs.Texts.{padded, monthly, dated}
 
 -- a digit
 abbrev pub Digit : ℕ → ℕ → Type 0

@@ -1,0 +1,85 @@
+//! Months and dates, read from words.
+ghost use Rattle.std.specs.Prelude.{[], ◌∷◌};
+ghost use Rattle.lines.specs.Readers.{Reads};
+ghost use Rattle.lines.specs.Dates.{Digit, Pair, Monthly, MonthWord, DateWord, CalendarWord};
+
+use crate::fields::{Fault, Field};
+use kinds::{Date, Month};
+
+/// The number that a digit writes.
+// `parse` of std would take a sign too.
+fn digit(byte: u8) -> Result<u8, Fault>
+    ensures { Reads (Digit byte) result }
+{
+    match byte {
+        b'0'..=b'9' => Ok(byte - b'0'),
+        _ => Err(Fault::Unreadable),
+    }
+}
+
+/// The number that two digits write.
+fn two_digits(tens: u8, units: u8) -> Result<u8, Fault>
+    ensures { Reads (Pair (tens ∷ units ∷ [])) result }
+{
+    Ok(digit(tens)? * 10 + digit(units)?)
+}
+
+/// The month that seven bytes write.
+fn month_of(bytes: &[u8]) -> Result<Month, Fault>
+    ensures { Reads (Monthly bytes.now) result }
+{
+    let [c, d, y, z, dash, m, n] = bytes else {
+        return Err(Fault::Unreadable);
+    };
+    if *dash != b'-' {
+        return Err(Fault::Unreadable);
+    }
+    let century = two_digits(*c, *d)?;
+    let year = two_digits(*y, *z)?;
+    let month = two_digits(*m, *n)?;
+    Ok(Month {
+        year: u16::from(century) * 100 + u16::from(year),
+        month,
+    })
+}
+
+/// The date that ten bytes write.
+fn date_of(bytes: &[u8]) -> Result<Date, Fault>
+    ensures { Reads (DateWord bytes.now) result }
+{
+    let [front @ .., dash, tens, units] = bytes else {
+        return Err(Fault::Unreadable);
+    };
+    if *dash != b'-' {
+        return Err(Fault::Unreadable);
+    }
+    let Month { year, month } = month_of(front)?;
+    let day = two_digits(*tens, *units)?;
+    Ok(Date { year, month, day })
+}
+
+/// A month of the calendar.
+impl Field for Month {
+    ghost writes = { MonthWord };
+
+    fn read(word: &str) -> Result<Month, Fault> {
+        let month = month_of(word.as_bytes())?;
+        if month.month < 1 || month.month > 12 {
+            return Err(Fault::Unreadable);
+        }
+        Ok(month)
+    }
+}
+
+/// A date of the calendar.
+impl Field for Date {
+    ghost writes = { CalendarWord };
+
+    fn read(word: &str) -> Result<Date, Fault> {
+        let date = date_of(word.as_bytes())?;
+        if !date.exists() {
+            return Err(Fault::Unreadable);
+        }
+        Ok(date)
+    }
+}
