@@ -1,2 +1,0 @@
-mod Keywords
-mod Listing

@@ -1,5 +1,1 @@
-pub mod Commands
-pub mod Answers
-pub mod Unreadable
-pub mod Figures
 pub mod Replies

@@ -1,40 +1,25 @@
--- What the desk answers to each command, and to each line.
-use Rattle.std.specs.Prelude.{◌≡◌, ℕ, List, ℤ, vec_items, IsUtf8, Vec}
-use Rattle.std.specs.declared.alloc.Global.{Global}
-use Rattle.kinds.specs.declared.refusals.Refusal.{Refusal}
-use Rattle.sharing.specs.Sharing.{Shared}
-use Rattle.sharing.specs.Limits.{Limits, Breaks}
-use Rattle.sharing.specs.Amounts.{Over, Sharable, Unsharable}
-use Rattle.desk.specs.declared.answers.Answer.{Answer}
-use Rattle.desk.specs.declared.answers.Answer.TheVariants.{Nothing, Shared as SharesGiven, Amounts as AmountsGiven, Refused}
-use Rattle.desk.specs.declared.commands.ShareLine.{ShareLine}
-use Rattle.desk.specs.declared.commands.AmountLine.{AmountLine}
-use Rattle.desk.specs.declared.commands.Command.{Command}
-use Rattle.desk.specs.declared.commands.Command.TheVariants.{Nothing as NoCommand, Share, Amount}
-use Rattle.desk.specs.declared.commands.Expected.{Expected}
-use Rattle.desk.specs.declared.commands.Expected.TheVariants.{Text}
-use Rattle.desk.specs.declared.commands.Unread.TheVariants.{Unreadable}
-use Rattle.desk.specs.Answers.{answered}
-use Rattle.desk.specs.Unreadable.{unreadable}
-use Rattle.desk.specs.Commands.{Means, Unmeant}
+-- What the desk answers to each line.
+use Rattle.std.specs.Prelude.{◌≡◌, ℕ, List, [], ◌++◌, Some, None, codes, decimal, IsUtf8, ◌≢◌, Option}
+use Rattle.lines.specs.Words.{before, words}
+use Rattle.commands.specs.Replies.{Said, text, unread, Answered}
+use Rattle.desk_sharing.specs.Sharings.{spelled, Of}
 
--- the shares and the total by the rule of sharing, or the limit that is passed
-pub data Shares (x : ShareLine) : Answer → Type 0 where
-  given : (t : ℤ) (ss : Vec ℤ Global) → Limits x.p x.q (vec_items x.claims) → Shared x.p x.q (vec_items x.claims) (vec_items ss) t → Shares x (SharesGiven t ss)
-  refused : (e : Refusal) → Breaks x.p x.q (vec_items x.claims) e → Shares x (Refused e)
+-- the words of a line, up to a comment
+abbrev pub words_of : List ℕ → List (List ℕ)
+words_of line = words (before 35 line)
 
--- the shares by the rule of an amount over weights, or why there are none
-pub data AmountsOf (x : AmountLine) : Answer → Type 0 where
-  allotted : (ss : Vec ℤ Global) → Sharable x.amount (vec_items x.weights) → Over x.amount (vec_items x.weights) (vec_items ss) → AmountsOf x (AmountsGiven ss)
-  denied : (e : Refusal) → Unsharable x.amount (vec_items x.weights) e → AmountsOf x (Refused e)
+-- a line that cannot be read, by its number, and what was expected of it
+abbrev pub unreadable : ℕ → List ℕ → List ℕ
+unreadable n form = codes "UNREADABLE " ++ (decimal n ++ (codes " expected " ++ form))
 
-abbrev pub Answers : Command → Answer → Type 0
-Answers NoCommand a = a ≡ Nothing
-Answers (Share x) a = Shares x a
-Answers (Amount x) a = AmountsOf x a
+-- what is printed for what is said to line n; where nothing is said, a keyword was expected
+abbrev pub printed : ℕ → Option Said → List ℕ
+printed n (Some (text t)) = t
+printed n (Some (unread form)) = unreadable n form
+printed n None = unreadable n (codes "share or amount")
 
--- what is said to the line of number n: the answer to its command, or what it should have held
+-- the answer to line n: none where it has no words, else what is said to its words; or it is no text
 pub data Responds (n : ℕ) (line : List ℕ) : List ℕ → Type 0 where
-  answer : IsUtf8 line → (c : Command) → Means line c → (a : Answer) → Answers c a → Responds n line (answered a)
-  unread : IsUtf8 line → (x : Expected) → Unmeant line (Unreadable x) → Responds n line (unreadable n x)
-  no_text : (IsUtf8 line → ⊥) → Responds n line (unreadable n Text)
+  no_text : (IsUtf8 line → ⊥) → Responds n line (unreadable n (codes "a line of text"))
+  no_words : IsUtf8 line → words_of line ≡ [] → Responds n line []
+  answer : IsUtf8 line → words_of line ≢ [] → (y : Option Said) → Answered spelled Of (words_of line) tt tt y → Responds n line (printed n y)

@@ -1,49 +1,30 @@
-//! What the desk answers to a command and to a line.
+//! What the desk answers to a line.
+ghost use Rattle.std.specs.Option.{option_map};
 ghost use Rattle.std.specs.Prelude.{◌≡◌, IfOk, string_bytes};
-ghost use Rattle.desk.specs.Replies.{Shares, AmountsOf, Answers, Responds};
+ghost use Rattle.commands.specs.Replies.{said};
+ghost use Rattle.desk.specs.Replies.{unreadable, printed, Responds};
 
-use crate::answers::{Answer, answer_text, unread_text};
-use crate::commands::{AmountLine, Command, Expected, ShareLine, Unread, read_line};
-use crate::figures::{figures_of, shares_of};
-use sharing::{share, share_amount};
+use commands::{Reply, refused_text};
+use desk_sharing::answer;
+use lines::{split_words, uncommented};
 use std::alloc::{AllocError, Global};
 
-/// Shares a fraction of the sum of the claims.
-fn answer_share(heap: Global, line: &ShareLine) -> Result<Answer, AllocError>
-    ensures { IfOk result (λ a. Shares line.now a) }
+/// The text for a line that cannot be read: its number, and what was expected in plain words.
+pub fn unread_text(heap: Global, number: u64, expected: &str) -> Result<String, AllocError>
+    ensures { IfOk result (λ s. string_bytes s ≡ unreadable number expected.now) }
 {
-    let mut figures = figures_of(heap, line.claims.as_slice())?;
-    match share(figures.as_mut_slice(), line.p, line.q) {
-        Ok(total) => {
-            let shares = shares_of(heap, figures.as_slice())?;
-            Ok(Answer::Shared { total, shares })
-        }
-        Err(refusal) => Ok(Answer::Refused(refusal)),
-    }
+    format!(in heap; "UNREADABLE {number} expected {expected}")
 }
 
-/// Shares an amount over the weights.
-fn answer_amount(heap: Global, line: &AmountLine) -> Result<Answer, AllocError>
-    ensures { IfOk result (λ a. AmountsOf line.now a) }
+/// The text of what is said to the line of this number.
+fn reply_text(heap: Global, number: u64, reply: Option<Reply>) -> Result<String, AllocError>
+    ensures { IfOk result (λ s. string_bytes s ≡ printed number (option_map said reply)) }
 {
-    let mut figures = figures_of(heap, line.weights.as_slice())?;
-    match share_amount(figures.as_mut_slice(), line.amount) {
-        Ok(()) => {
-            let shares = shares_of(heap, figures.as_slice())?;
-            Ok(Answer::Amounts { shares })
-        }
-        Err(refusal) => Ok(Answer::Refused(refusal)),
-    }
-}
-
-/// Carries out a command.
-pub fn answer(heap: Global, command: &Command) -> Result<Answer, AllocError>
-    ensures { IfOk result (λ a. Answers command.now a) }
-{
-    match command {
-        Command::Nothing => Ok(Answer::Nothing),
-        Command::Share(line) => answer_share(heap, line),
-        Command::Amount(line) => answer_amount(heap, line),
+    match reply {
+        Some(Reply::Text(text)) => Ok(text),
+        Some(Reply::Refused(refusal)) => refused_text(heap, refusal),
+        Some(Reply::Unreadable(form)) => unread_text(heap, number, form),
+        None => unread_text(heap, number, "share or amount"),
     }
 }
 
@@ -52,16 +33,11 @@ pub fn answer_line(heap: Global, number: u64, line: &[u8]) -> Result<String, All
     ensures { IfOk result (λ s. Responds number line.now (string_bytes s)) }
 {
     let Ok(text) = std::str::from_utf8(line) else {
-        return unread_text(heap, number, Expected::Text);
+        return unread_text(heap, number, "a line of text");
     };
-    match read_line(heap, text) {
-        Ok(command) => {
-            let answer = answer(heap, &command)?;
-            answer_text(heap, &answer)
-        }
-        Err(unread) => match unread {
-            Unread::Unreadable(expected) => unread_text(heap, number, expected),
-            Unread::Memory => Err(AllocError),
-        },
+    let words = split_words(heap, uncommented(text))?;
+    match words.as_slice() {
+        [] => Ok(String::new(heap)),
+        words => reply_text(heap, number, answer(heap, words)?),
     }
 }

@@ -4,9 +4,9 @@
 use std::io::{BufRead, BufReader};
 
 fn run(rt: &HostRuntime) -> anyhow::Result<()> {
-    let mut number: u64 = 0;
-    for line in BufReader::new(rt.alloc(), rt.stdin())?.split(rt.alloc(), b'\n') {
-        number = number.saturating_add(1);
+    let lines = BufReader::new(rt.alloc(), rt.stdin())?.split(rt.alloc(), b'\n');
+    // The count would end at 2^64, which no input reaches.
+    for (line, number) in lines.zip(1u64..) {
         let line = line?;
         let text = desk::answer_line(rt.alloc(), number, line.as_slice())?;
         if !text.is_empty() {
