@@ -7,7 +7,7 @@ ghost use Rattle.desk_bands.specs.Asking.{AskWords, Asked, ask_form};
 use crate::setting::InHand;
 use commands::{CalendarDate, Command, Reply, Row, Then, carry_out};
 use lines::{Fault, Field};
-use rules::rules::BandRule;
+use rules::rules::Rule;
 use std::alloc::{AllocError, Global};
 
 /// `ask bands YYYY-MM-DD`: the bands of a date.
@@ -27,7 +27,7 @@ impl Command<InHand> for AskLine {
     }
 
     fn answer(&self, heap: Global, hand: &mut InHand) -> Result<Reply, AllocError> {
-        let Some(bands) = hand.bands(self.date.date) else {
+        let Some(bands) = hand.ask(self.date.date) else {
             return Ok(Reply::Text(format!(in heap; "no bands")?));
         };
         let figures = bands.figures();

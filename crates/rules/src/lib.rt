@@ -14,4 +14,4 @@ pub use capacity::no_capacity;
 pub use day_price::DayPrice;
 pub use monthly::Monthly;
 pub use prices::Prices;
-pub use rules::{BandRule, Either, Fixed, PriceRule};
+pub use rules::{Either, Fixed, Rule};
