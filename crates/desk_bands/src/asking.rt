@@ -7,6 +7,7 @@ ghost use Rattle.desk_bands.specs.Asking.{AskWords, Asked, ask_form};
 use crate::setting::InHand;
 use commands::{CalendarDate, Command, Reply, Row, Then, carry_out};
 use lines::{Fault, Field};
+use rules::bands::parts::BandFigures;
 use rules::rules::Rule;
 use std::alloc::{AllocError, Global};
 
@@ -30,7 +31,7 @@ impl Command<InHand> for AskLine {
         let Some(bands) = hand.ask(self.date.date) else {
             return Ok(Reply::Text(format!(in heap; "no bands")?));
         };
-        let figures = bands.figures();
+        let figures = BandFigures::from(bands);
         let la = figures.lower_allowed;
         let lc = figures.lower_cumulable;
         let uc = figures.upper_cumulable;

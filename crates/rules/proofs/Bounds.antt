@@ -12,12 +12,13 @@ div_mono a b k some h = le-div (a / k) b k some (omega (arith, div-add-mod' a k)
 at_most : (x d : ℕ) → x ≤ 10000000000000 * d → x / (100260 * d) ≤ 100000000
 at_most x d h = div-le_of_le-mul (100260 * d) (omega arith)
 
-pub record Small (s o n d t : ℕ) : Type 0 where
-  pub own : s * d ≤ 12000000000000
-  pub other : o * (d - n) ≤ 12000000000000
-  pub more : o * (d + n) ≤ 24000000000000
-  pub both : (s + o) * d ≤ 24000000000000
-  pub parts : (s + o) * d * t ≤ 2400000000000000
+-- a tolerance, or both, times a share's whole, or less than two
+pub product_most : (x k : ℕ) → x ≤ 20000000000 → k ≤ 2400 → x * k ≤ 48000000000000
+product_most x k h l = mul-le x k 20000000000 2400 h l
+
+-- that times the talon
+pub talon_most : (x t : ℕ) → x ≤ 48000000000000 → t ≤ 100 → x * t ≤ 4800000000000000
+talon_most x t h l = mul-le x t 48000000000000 100 h l
 
 -- no figure passes 100,000,000, and a cumulable one is never above the allowed one of its side
 pub record Ranges (s o n d t i : ℕ) : Type 0 where
@@ -27,18 +28,7 @@ pub record Ranges (s o n d t i : ℕ) : Type 0 where
   pub high : upper s o n d t / over s o n d t ≤ 100000000
   pub limit : 5 * unit s o n d t / over s o n d t ≤ 100000000
 
-module _ (s o n d t : ℕ) (h1 : s ≤ 10000000000) (h2 : o ≤ 10000000000) (h3 : n ≤ d) (h4 : d ≤ 1200) (h5 : t ≤ 100) where
-  pub small : Small s o n d t
-  small =
-      let b : (s + o) * d ≤ 24000000000000 = mul-le (s + o) d 20000000000 1200 (omega arith) h4 in
-      record {
-        own = mul-le s d 10000000000 1200 h1 h4;
-        other = mul-le o (d - n) 10000000000 1200 h2 (omega arith);
-        more = mul-le o (d + n) 10000000000 2400 h2 (omega arith);
-        both = b;
-        parts = mul-le ((s + o) * d) t 24000000000000 100 b h5;
-      }
-
+module _ (s o n d t : ℕ) (h1 : s ≤ 10000000000) (h2 : o ≤ 10000000000) (h3 : n ≤ d) (h4 : t ≤ 100) where
   -- the middle of the lower and the upper edge is the unit at 100 percent
   middle : lower s o n d t + upper s o n d t ≡ 200 * ((s + o) * d)
   middle =
@@ -50,7 +40,7 @@ module _ (s o n d t : ℕ) (h1 : s ≤ 10000000000) (h2 : o ≤ 10000000000) (h3
 
   outer_within : 2 * unit s o n d t - inner s o n d t ≤ upper s o n d t
   outer_within =
-      let all : (s + o) * d * t ≤ (s + o) * d * 100 = mul-le ((s + o) * d) t ((s + o) * d) 100 (omega arith) h5 in
+      let all : (s + o) * d * t ≤ (s + o) * d * 100 = mul-le ((s + o) * d) t ((s + o) * d) 100 (omega arith) h4 in
       let more : o * (d - n) ≤ o * (d + n) = mul-le o (d - n) o (d + n) (omega arith) (omega arith) in
       omega (arith, middle)
 
@@ -65,7 +55,7 @@ module _ (s o n d t : ℕ) (h1 : s ≤ 10000000000) (h2 : o ≤ 10000000000) (h3
   limit_most : 5 * unit s o n d t ≤ 10000000000000 * d
   limit_most =
       let both : (s + o) * d ≤ 20000000000 * d = mul-le (s + o) d 20000000000 d (omega arith) (omega arith) in
-      omega (arith, mul-le ((s + o) * d) t (20000000000 * d) 100 both h5)
+      omega (arith, mul-le ((s + o) * d) t (20000000000 * d) 100 both h4)
 
   pub ranges : (i : ℕ) → 0 < d → i ≡ inner s o n d t → Ranges s o n d t i
   ranges i some e = record {

@@ -20,7 +20,7 @@ pub trait Rule<T> {
 }
 
 /// The same on every date, or none on every date.
-#[derive(Clone, Copy)]
+#[derive(Clone, Copy, PartialEq, Eq, Debug)]
 pub struct Fixed<T> {
     pub value: Option<T>,
 }
@@ -42,7 +42,7 @@ impl<T: Copy> Rule<T> for Monthly<T> {
 }
 
 /// One of two kinds of rule, so that one list of calls can mix them.
-#[derive(Drop)]
+#[derive(Drop, Debug)]
 pub enum Either<R, S> {
     This(R),
     That(S),

@@ -17,4 +17,4 @@ made (Ok b) h = h
 made (Err e) h = no_misfit e h
 
 pub returns : goal.returns
-returns c = rw c.ok.ensures.value (made c.new.result c.new.ensures)
+returns c = rw c.ok.ensures.value (made c.try_from.result c.try_from.ensures)

@@ -1,7 +1,7 @@
 use Rattle.std.proofs.Common.{◌≡◌, ℕ, zero, suc, ◌*◌, ◌≤◌, ℤ, pos, ◌-ℤ◌, neg_ℤ, nat_abs, ◌≤ℤ◌, ◌<ℤ◌, refl, ap, ◌∙◌, arith, w64, SFits, to_z, of_z, rules}
 use Rattle.std.proofs.lemmas.Int.{ints, to_z-of_z}
 use Rattle.rules.specs.Amounts.{Nearest, Amounts}
-use Rattle.rules.proofs.amounts.amount.Goals as goal
+use Rattle.rules.proofs.price.Price.amount.Goals as goal
 
 size_negated : (n : ℕ) → nat_abs (neg_ℤ (pos n)) ≡ n
 size_negated zero = refl

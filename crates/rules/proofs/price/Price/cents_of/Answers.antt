@@ -1,7 +1,7 @@
 use Rattle.std.proofs.Common.{◌≡◌, ℕ, ◌+◌, ◌*◌, ◌/◌, ◌≤◌, arith}
 use Rattle.std.proofs.lemmas.Nat.{mul-le}
 use Rattle.rules.specs.Amounts.{Nearest}
-use Rattle.rules.proofs.amounts.cents_of.Goals as goal
+use Rattle.rules.proofs.price.Price.cents_of.Goals as goal
 
 near : (n m s : ℕ) → n ≡ m → Nearest m s ((n * s + 5000) / 10000)
 near n m s e = rw e (record { above = omega arith; below = omega arith })
