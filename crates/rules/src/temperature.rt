@@ -21,8 +21,8 @@ impl TemperatureShare {
         ensures { Coldness forecast threshold limit result.part result.whole }
     {
         let kept = forecast.clamp(limit, threshold);
-        let part = (threshold - kept) as u16;
-        let whole = (threshold - limit) as u16;
+        let part = threshold.abs_diff(kept);
+        let whole = threshold.abs_diff(limit);
         TemperatureShare { part, whole }
     }
 }

@@ -9,7 +9,7 @@ use crate::tolerances::Tolerances;
 
 impl Bands {
     /// The bands of a day, from its tolerances, its temperature share and the talon in percent.
-    #[tactic(auto, using(crate::proofs::Bounds::product_most, crate::proofs::Bounds::talon_most))]
+    #[tactic(auto, using(crate::proofs::Bounds::bounds))]
     pub fn exact(tolerances: Tolerances, share: TemperatureShare, talon: u8) -> Bands
         requires part { talon ≤ 100 }
         ensures { figures_of result ≡ exactly tolerances.standard tolerances.optional share.part share.whole talon }
