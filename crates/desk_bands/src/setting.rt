@@ -84,7 +84,7 @@ impl Command<InHand> for FixedLine {
     }
 
     fn answer(&self, heap: Global, hand: &mut InHand) -> Result<Reply, AllocError> {
-        match Bands::new(self.figures) {
+        match Bands::try_from(self.figures) {
             Ok(bands) => {
                 *hand = Either::This(Fixed { value: Some(bands) });
                 Ok(Reply::Text(format!(in heap; "ok")?))

@@ -18,6 +18,6 @@ pub fn no_capacity() -> Fixed<Bands>
         carry_limit: 0,
     };
     Fixed {
-        value: Bands::new(zeros).ok(),
+        value: Bands::try_from(zeros).ok(),
     }
 }

@@ -9,8 +9,9 @@ use crate::months::is_ruled;
 use crate::tolerance::{MOST_BASE, Perimeter};
 use kinds::{Month, Refusal};
 use rules::bands::Bands;
-use rules::bands::exact::temperature_share;
 use rules::monthly::Monthly;
+use rules::temperature::TemperatureShare;
+use rules::tolerances::Tolerances;
 use std::alloc::Global;
 
 /// The terms of a month's schedule.
@@ -99,8 +100,8 @@ impl Terms {
             return None;
         };
         let optional = u64::from(self.base) * u64::from(self.optional);
-        let (n, d) = temperature_share(forecast, self.threshold, self.limit);
-        Some(Bands::exact(standard, optional, n, d, self.talon))
+        let share = TemperatureShare::new(forecast, self.threshold, self.limit);
+        Some(Bands::exact(Tolerances { standard, optional }, share, self.talon))
     }
 }
 

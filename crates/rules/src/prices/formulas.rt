@@ -4,6 +4,7 @@ ghost use Rattle.rules.specs.Formulas.{from2012, from2008};
 ghost use Rattle.rules.specs.Prices.{price_figures_of};
 
 use crate::day_price::DayPrice;
+use crate::price::Price;
 use crate::prices::Prices;
 
 impl Prices {
@@ -12,11 +13,12 @@ impl Prices {
         ensures { price_figures_of result ≡ from2012 reference.cents supplement.cents }
     {
         let r = u32::from(reference.cents);
+        let s = u32::from(supplement.cents);
         Prices {
-            p1: 10 * r,
-            buy: 7 * r,
-            sell: 13 * r,
-            p3: 10 * u32::from(supplement.cents),
+            p1: Price { mills: 10 * r },
+            buy: Price { mills: 7 * r },
+            sell: Price { mills: 13 * r },
+            p3: Price { mills: 10 * s },
         }
     }
 
@@ -26,11 +28,14 @@ impl Prices {
     {
         let r = u32::from(reference.cents);
         let h = u32::from(hub.cents);
+        let s = u32::from(supplement.cents);
+        let buy = (7 * r).max(5 * h);
+        let sell = (13 * r).min(15 * h);
         Prices {
-            p1: 10 * r,
-            buy: (7 * r).max(5 * h),
-            sell: (13 * r).min(15 * h),
-            p3: 10 * u32::from(supplement.cents),
+            p1: Price { mills: 10 * r },
+            buy: Price { mills: buy },
+            sell: Price { mills: sell },
+            p3: Price { mills: 10 * s },
         }
     }
 }
