@@ -1,4 +1,3 @@
 -- The lemmas of this crate.
 pub mod Tolerances
 pub mod EachDay
-pub mod Exits

@@ -5,7 +5,7 @@ ghost use Rattle.terms.specs.Schedule.{Plausible, PlausibleOrNone, AllPlausible,
 ghost use Rattle.terms.specs.Tolerance.{thousandths};
 
 use crate::errors::RuleError;
-use crate::months::is_ruled;
+use crate::months::ruled_days;
 use crate::tolerance::{MOST_BASE, Perimeter};
 use kinds::{Month, Refusal};
 use rules::bands::Bands;
@@ -63,10 +63,7 @@ impl Terms {
     fn check(self, forecasts: &[Option<i16>]) -> Result<(), Refusal>
         ensures { MatchResult result (λ _. Fit self forecasts.now) (Unfit self forecasts.now) }
     {
-        if !is_ruled(self.month) {
-            return Err(Refusal::WrongMonth);
-        }
-        if forecasts.len() != usize::from(self.month.days()) {
+        if forecasts.len() != usize::from(ruled_days(self.month)?) {
             return Err(Refusal::WrongSeries);
         }
         if !self.are_sound() || !are_plausible(forecasts) {
