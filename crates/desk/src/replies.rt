@@ -5,7 +5,7 @@ ghost use Rattle.desk.specs.Replies.{Shares, AmountsOf, Answers, Responds};
 use crate::answers::{Answer, answer_text, unread_text};
 use crate::commands::{AmountLine, Command, Expected, ShareLine, Unread, read_line};
 use crate::figures::{figures_of, shares_of};
-use sharing::{share, share_amount};
+use sharing::{Fraction, share, share_amount};
 use std::alloc::{AllocError, Global};
 
 /// Shares a fraction of the sum of the claims.
@@ -13,7 +13,11 @@ fn answer_share(heap: Global, line: &ShareLine) -> Result<Answer, AllocError>
     ensures { IfOk result (λ a. Shares line.now a) }
 {
     let mut figures = figures_of(heap, line.claims.as_slice())?;
-    match share(figures.as_mut_slice(), line.p, line.q) {
+    let fraction = Fraction {
+        p: line.p,
+        q: line.q,
+    };
+    match share(figures.as_mut_slice(), fraction) {
         Ok(total) => {
             let shares = shares_of(heap, figures.as_slice())?;
             Ok(Answer::Shared { total, shares })

@@ -5,7 +5,7 @@ use crate::figures::{Shares, figures_of};
 use commands::{Command, Reply, Row, Then, refused_text};
 use lines::Fault;
 use lines::fields::Field;
-use sharing::{share, share_amount};
+use sharing::{Fraction, share, share_amount};
 use std::alloc::{AllocError, Global};
 
 /// `share P Q V..`: the fraction P / Q of each of the claims V.
@@ -32,7 +32,11 @@ impl Command<()> for ShareLine {
 
     fn answer(&self, heap: Global, _state: &mut ()) -> Result<Reply, AllocError> {
         let mut figures = figures_of(heap, self.claims.as_slice())?;
-        match share(figures.as_mut_slice(), self.p, self.q) {
+        let fraction = Fraction {
+            p: self.p,
+            q: self.q,
+        };
+        match share(figures.as_mut_slice(), fraction) {
             Ok(total) => {
                 let shares = Shares(figures.as_slice());
                 Ok(Reply::Text(format!(in heap; "total {total} shares{shares}")?))
