@@ -22,7 +22,7 @@ pub fn share<C: Claim>(claims: &mut [C], fraction: Fraction) -> Result<i64, Refu
     ensures exact { ExactLimits }
     ensures one_way { OneWay }
 {
-    // The ledger works in fixed memory, with no heap: the table has a row for each claim that there can be.
+    // On the stack, at its largest: the project's rule is fixed memory and no heap.
     let mut table = [Row::default(); MOST_CLAIMS];
     let (rows, sum) = read(claims, &mut table)?;
     fraction.check(sum)?;
