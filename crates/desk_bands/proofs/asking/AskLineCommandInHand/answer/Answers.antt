@@ -9,5 +9,5 @@ returns-in_default c = (λ d. ap (λ f. f d) c.ask.ensures.kept, ap text (c.in_o
 pub returns : goal.returns
 returns c = (
   λ d. ap (λ f. f d) c.ask.ensures.kept,
-  ap text (c.in_ok-format-2.ensures.ok ∙ ap figured c.from-figures.ensures ∙ ap shown (sym c.in-Some.is ∙ c.ask.ensures.answer)),
+  ap text (c.in_ok-format-2.ensures.ok ∙ ap figured c.from-lower_allowed.ensures ∙ ap shown (sym c.in-Some.is ∙ c.ask.ensures.answer)),
 )
