@@ -32,9 +32,6 @@ size_is a n fits e = e ∙ ap nat_abs (to_z-of_z w64 a fits)
 shared_as : (a : ℤ) (ws : List ℤ) {p q : ℕ} {vs ss : List ℤ} {t : ℤ} → p ≡ nat_abs a → q ≡ whole ws → vs ≡ map size ws → Shared p q vs ss t → Shared (nat_abs a) (whole ws) (map size ws) ss t
 shared_as a ws e f h d = rw (← e, ← f, ← h) d
 
-pub by_size-requires : goal.by_size-requires
-by_size-requires g c = let h = c.in_ok-rows.ensures in rw h.3 h.1
-
 pub deal-requires : goal.deal-requires
 deal-requires g c =
     let ws = map g.C.Claim.told c.args.claims.now in
