@@ -46,10 +46,7 @@ pub fn share_amount<C: Claim>(claims: &mut [C], amount: i64) -> Result<(), Refus
     if sum == 0 && amount != 0 {
         return Err(Refusal::NoWeight);
     }
-    let part = Fraction {
-        p: amount.unsigned_abs(),
-        q: sum.max(1),
-    };
+    let part = Fraction::over(amount, sum);
     part.check(sum)?;
     by_size(rows);
     deal(rows, part);
