@@ -3,7 +3,7 @@ use Rattle.std.proofs.Common.{◌≡◌, ℕ, ◌+◌, ◌-◌, ◌*◌, ◌/◌
 use Rattle.std.proofs.Math.Nat.{div-le_of_le-mul}
 use Rattle.std.proofs.lemmas.Nat.{mul-le, le-div, div-add-mod'}
 
--- a tolerance, or both, times a share's whole, or less than two
+-- a tolerance, or both, times at most twice the whole of a share
 pub product_most : (x k : ℕ) → x ≤ 20000000000 → k ≤ 2400 → x * k ≤ 48000000000000
 product_most x k h l = mul-le x k 20000000000 2400 h l
 
@@ -20,10 +20,9 @@ at_most : (x d : ℕ) → x ≤ 10000000000000 * d → x / (100260 * d) ≤ 1000
 at_most x d h = div-le_of_le-mul (100260 * d) (omega arith)
 
 -- no figure passes 100,000,000
-module _ (s o n d : ℕ) (h1 : s ≤ 10000000000) (h2 : o ≤ 10000000000) (h3 : n ≤ d) where
-  pub upper_most : 100 * (s * d + o * (d + n)) / (100260 * d) ≤ 100000000
-  upper_most =
-      at_most _ d (omega (arith, mul-le s d 10000000000 d h1 (omega arith), mul-le o (d + n) 10000000000 (2 * d) h2 (omega arith)))
+pub upper_most : (s o n d : ℕ) → s ≤ 10000000000 → o ≤ 10000000000 → n ≤ d → 100 * (s * d + o * (d + n)) / (100260 * d) ≤ 100000000
+upper_most s o n d h1 h2 h3 =
+    at_most _ d (omega (arith, mul-le s d 10000000000 d h1 (omega arith), mul-le o (d + n) 10000000000 (2 * d) h2 (omega arith)))
 
 pub limit_most : (s o d t : ℕ) → s ≤ 10000000000 → o ≤ 10000000000 → t ≤ 100 → 5 * ((s + o) * d * t) / (100260 * d) ≤ 100000000
 limit_most s o d t h1 h2 h3 =
@@ -42,4 +41,5 @@ outer_within s o n d t i some h1 h2 e =
     let more : o * (d - n) ≤ o * (d + n) = mul-le o (d - n) o (d + n) (omega arith) (omega arith) in
     div_mono _ _ (100260 * d) (omega arith) (omega arith)
 
+-- what the bands from exact fractions cite
 pub ruleset bounds = (product_most, talon_most, upper_most, limit_most, outer_within)

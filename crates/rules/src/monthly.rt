@@ -5,7 +5,7 @@ ghost use Rattle.rules.specs.Monthly.{on_date};
 use kinds::{Date, Month};
 
 /// A value or none for each day of a month, from its 1st on.
-#[derive(Drop, Debug)]
+#[derive(Drop, PartialEq, Eq, Debug)]
 pub struct Monthly<T> {
     pub month: Month,
     pub days: Vec<Option<T>>,

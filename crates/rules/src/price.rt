@@ -5,7 +5,7 @@ ghost use Rattle.kinds.specs.declared.refusals.Refusal.TheVariants.{TermOutOfRan
 use kinds::Refusal;
 
 /// A price in mills per MWh, at most 400,000.
-#[derive(Clone, Copy, PartialEq, Eq, Debug)]
+#[derive(Clone, Copy, PartialEq, Eq, PartialOrd, Ord, Debug)]
 pub struct Price {
     pub mills: u32,
     ghost ranged: { mills ≤ 400000 },

@@ -42,7 +42,7 @@ impl<T: Copy> Rule<T> for Monthly<T> {
 }
 
 /// One of two kinds of rule, so that one list of calls can mix them.
-#[derive(Drop, Debug)]
+#[derive(Drop, PartialEq, Eq, Debug)]
 pub enum Either<R, S> {
     This(R),
     That(S),

@@ -5,8 +5,8 @@ ghost use Rattle.rules.specs.Bands.{figures_of, Ranged, Misfit};
 use crate::bands::Bands;
 use kinds::Refusal;
 
-/// Five figures, in the order of their names.
-#[derive(Clone, Copy, PartialEq, Eq, Debug)]
+/// Five figures, in the order of their names; by default five zeros.
+#[derive(Clone, Copy, PartialEq, Eq, Default, Debug)]
 pub struct BandFigures {
     pub lower_allowed: u32,
     pub lower_cumulable: u32,

@@ -22,20 +22,20 @@ impl Prices {
         }
     }
 
-    /// The prices by the rule of 2008, from the reference, the hub and the supplement.
+    /// The prices by the rule of 2008, from the reference, the hub and the supplement: those of 2012, but
+    /// never below half of the hub's where the pool is long, nor above one and a half of it where short.
     pub fn of_2008(reference: DayPrice, hub: DayPrice, supplement: DayPrice) -> Prices
         ensures { price_figures_of result ≡ from2008 reference.cents hub.cents supplement.cents }
     {
-        let r = u32::from(reference.cents);
+        let Prices { p1, buy, sell, p3 } = Prices::of_2012(reference, supplement);
         let h = u32::from(hub.cents);
-        let s = u32::from(supplement.cents);
-        let buy = (7 * r).max(5 * h);
-        let sell = (13 * r).min(15 * h);
+        let buy = buy.mills.max(5 * h);
+        let sell = sell.mills.min(15 * h);
         Prices {
-            p1: Price { mills: 10 * r },
+            p1,
             buy: Price { mills: buy },
             sell: Price { mills: sell },
-            p3: Price { mills: 10 * s },
+            p3,
         }
     }
 }
