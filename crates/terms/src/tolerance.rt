@@ -6,7 +6,7 @@ ghost use Rattle.terms.specs.Tolerance.{rates_of, thousandths, Ends};
 use kinds::Refusal;
 
 /// A balancing perimeter.
-#[derive(Clone, Copy)]
+#[derive(Clone, Copy, Debug, PartialEq, Eq)]
 pub enum Perimeter {
     NorthB,
     NorthH,
