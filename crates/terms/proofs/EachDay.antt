@@ -1,5 +1,5 @@
 -- What a month has day by day from a series of it.
-use Rattle.std.proofs.Common.{◌≡◌, ℕ, ◌-◌, Bool, true, ◌&&◌, eqb, ltb, List, length, get_or, vec_items, None, Option, sym, ◌∙◌, inl, inr, arith}
+use Rattle.std.proofs.Common.{◌≡◌, ℕ, ◌-◌, Bool, true, ◌&&◌, ◌==◌, nat_lt, List, length, get_or, None, Option, sym, ◌∙◌, inl, inr, arith}
 use Rattle.std.proofs.lemmas.List.{get_or_past}
 use Rattle.std.proofs.lemmas.Bool.{cases_lt, cases_Bool, and_parts, eqb-true, ltb-true, cond-true, cond-false}
 use Rattle.std.proofs.lemmas.Bool.Decides.{nat_tests}
@@ -14,7 +14,7 @@ use Rattle.terms.specs.PriceRules.{Filled, Over, on_day, day_at}
 
 -- the test of a month: within it, a date is the day at its place
 abbrev within : Month → Date → Bool
-within m d = eqb d.year m.year && (eqb d.month m.month && ltb 0 d.day)
+within m d = d.year == m.year && (d.month == m.month && nat_lt 0 d.day)
 
 day_at_is : (m : Month) (d : Date) → within m d ≡ true → day_at m (d.day - 1) ≡ d
 day_at_is m d h =
@@ -38,9 +38,9 @@ on_each m rs xs P none h d = elim (cases_Bool (within m d)) [
 ]
 
 -- so a rule that is made place by place over the days of a series is a rule over its month
-pub over_month : (r : Monthly DayPrice) (P : Date → Option Prices → Type 0) (Q : ℕ → Option Prices → Type 0) (n : ℕ) (rule : Monthly Prices) → n ≡ length (vec_items r.days) → ((d : Date) → on_day r d ≡ None → P d None)
-    → ((k : ℕ) (o : Option Prices) → Q k o → P (day_at r.month k) o) → (rule.month ≡ r.month) × Filled Q n (vec_items rule.days) → Over r.month P rule
+pub over_month : (r : Monthly DayPrice) (P : Date → Option Prices → Type 0) (Q : ℕ → Option Prices → Type 0) (n : ℕ) (rule : Monthly Prices) → n ≡ length r.days.items → ((d : Date) → on_day r d ≡ None → P d None)
+    → ((k : ℕ) (o : Option Prices) → Q k o → P (day_at r.month k) o) → (rule.month ≡ r.month) × Filled Q n rule.days.items → Over r.month P rule
 over_month r P Q n rule e none each h = record {
   same = h.0;
-  each = rw h.0 (on_each r.month (vec_items r.days) (vec_items rule.days) P none (record { long = omega (arith, h.1.long); each = λ k l. each k _ (h.1.each k (omega arith)) }));
+  each = rw h.0 (on_each r.month r.days.items rule.days.items P none (record { long = omega (arith, h.1.long); each = λ k l. each k _ (h.1.each k (omega arith)) }));
 }

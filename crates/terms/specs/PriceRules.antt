@@ -1,5 +1,5 @@
 -- A price rule over a month: the prices of each date from those of its series.
-use Rattle.std.specs.Prelude.{◌≡◌, ℕ, ◌+◌, ◌<◌, List, length, None, vec_items, Option, MatchOption, slice_index_or}
+use Rattle.std.specs.Prelude.{◌≡◌, ℕ, ◌+◌, ◌<◌, List, length, None, Option, MatchOption, slice_index_or}
 use Rattle.kinds.specs.declared.dates.Date.{Date}
 use Rattle.kinds.specs.declared.dates.Month.{Month}
 use Rattle.rules.specs.declared.day_price.DayPrice.{DayPrice}
@@ -12,7 +12,7 @@ use Rattle.rules.specs.Prices.{price_figures_of}
 
 -- what a month holds for a date
 abbrev pub on_day : {T : Type 0} → Monthly T → Date → Option T
-on_day m d = on_date m.month (vec_items m.days) d
+on_day m d = on_date m.month m.days.items d
 
 -- the day at a place of a month, the 1st at 0
 abbrev pub day_at : Month → ℕ → Date

@@ -30,7 +30,7 @@ fn over<F: Fn(usize) -> Option<Prices>>(
     requires { F.IsAlwaysCallable formula }
     ensures { IfOk result (λ m. (m.month ≡ month) × Filled (F.post formula) count m.days.items) }
 {
-    let days = (0..count).map(|place| formula(place)).collect(heap)?;
+    let days = (0..count).map(&formula).collect(heap)?;
     Ok(Monthly { month, days })
 }
 
