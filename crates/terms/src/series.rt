@@ -11,23 +11,6 @@ use rules::day_price::DayPrice;
 use rules::monthly::Monthly;
 use std::alloc::Global;
 
-/// The largest price of a day, in cents.
-pub const MOST_CENTS: u32 = 30_000;
-
-/// The price of so many cents; refused where they are above the largest.
-fn price_of(cents: u32) -> Result<DayPrice, Refusal>
-    ensures { MatchResult result
-        (λ p. p.cents ≡ cents)
-        (λ e. (30000 < cents) × (e ≡ TermOutOfRange)) }
-{
-    if cents > MOST_CENTS {
-        return Err(Refusal::TermOutOfRange);
-    }
-    Ok(DayPrice {
-        cents: cents as u16,
-    })
-}
-
 /// The prices of these values; refused where one is above the largest.
 fn prices_of(heap: Global, values: &[Option<u32>]) -> Result<Vec<Option<DayPrice>>, RuleError>
     ensures { MatchResult result
@@ -37,7 +20,7 @@ fn prices_of(heap: Global, values: &[Option<u32>]) -> Result<Vec<Option<DayPrice
     // A chain that ends in `try_collect` was tried: its proof did not close at the value that is refused.
     let mut days = Vec::new(heap);
     for value in values {
-        days.push(value.map(price_of).transpose()?)?;
+        days.push(value.map(DayPrice::try_from).transpose()?)?;
     }
     Ok(days)
 }
