@@ -71,3 +71,34 @@ pub fn rule_2008(
         Some(Prices::of_2008(referred, traded, supplied))
     })
 }
+
+#[cfg(test)]
+mod tests {
+    use super::*;
+
+    // A series of two days in January 2012, of which the second has no price.
+    fn first_day(heap: Global, price: DayPrice) -> Result<Monthly<DayPrice>, AllocError> {
+        let mut days = Vec::new(heap);
+        days.push(Some(price))?;
+        days.push(None)?;
+        let month = Month {
+            year: 2012,
+            month: 1,
+        };
+        Ok(Monthly { month, days })
+    }
+
+    #[test]
+    fn rules_are_made(rt: HostRuntime) {
+        let heap = rt.alloc();
+        let reference = first_day(heap, DayPrice { cents: 2_500 }).expect(&rt, "a series");
+        let hub = first_day(heap, DayPrice { cents: 2_400 }).expect(&rt, "a series");
+        let supplement = first_day(heap, DayPrice { cents: 2_700 }).expect(&rt, "a series");
+        let new = rule_2012(heap, &reference, &supplement).expect(&rt, "a rule");
+        assert_eq!(rt; new.days.len(), 2);
+        assert!(rt; new.days[0].is_some() && new.days[1].is_none());
+        let old = rule_2008(heap, &reference, &hub, &supplement).expect(&rt, "a rule");
+        assert_eq!(rt; old.days.len(), 2);
+        assert!(rt; old.days[0].is_some() && old.days[1].is_none());
+    }
+}
