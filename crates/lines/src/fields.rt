@@ -10,6 +10,7 @@ use std::alloc::{AllocError, AllocFailed, Global};
 use std::num::ParseIntError;
 
 /// Why nothing was read: memory failed, or no word writes such a value.
+// An enum of its own: a shared one for every ground could have no `From` of a foreign error here.
 #[derive(Clone, Copy, PartialEq, Eq, Debug)]
 pub enum Fault {
     Memory,

@@ -7,7 +7,7 @@ use std::alloc::{AllocError, AllocFailed};
 
 /// Why no rule was made: memory failed, or the call was refused.
 // Its own enum, though `lines` has one of this shape: a shared one could have no `From` of a refusal here.
-#[derive(Clone, Copy)]
+#[derive(Clone, Copy, PartialEq, Eq, Debug)]
 pub enum RuleError {
     Memory,
     Refused(Refusal),

@@ -15,7 +15,7 @@ use rules::tolerances::Tolerances;
 use std::alloc::Global;
 
 /// The terms of a month's schedule.
-#[derive(Clone, Copy)]
+#[derive(Clone, Copy, PartialEq, Eq, Debug)]
 pub struct Terms {
     pub month: Month,
     pub perimeter: Perimeter,
