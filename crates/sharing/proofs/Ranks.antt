@@ -62,17 +62,13 @@ out : (x y i j : ℕ) → cond (ltb y x) true (cond (eqb x y) (ltb i j) false) �
 out x y i j h = elim (cases_lt y x) [ inl l ↦ inl l | inr l ↦ inr (grind arith) ]
 
 into : (x y i j : ℕ) → Ahead x y i j → cond (ltb y x) true (cond (eqb x y) (ltb i j) false) ≡ true
-into x y i j (inl l) = grind arith
-into x y i j (inr l) = grind arith
+into x y i j a = grind arith
 
 pub ahead_out : (r : ℕ → ℕ) (i j : ℕ) → ahead r i j ≡ true → (r j < r i) ⊎ ((r i ≡ r j) × (i < j))
 ahead_out r i j h = out (r i) (r j) i j h
 
 pass : (x y z i j k : ℕ) → Ahead x y i j → Ahead y z j k → Ahead x z i k
-pass x y z i j k (inl a) (inl c) = inl (omega arith)
-pass x y z i j k (inl a) (inr c) = inl (omega arith)
-pass x y z i j k (inr a) (inl c) = inl (omega arith)
-pass x y z i j k (inr a) (inr c) = inr (omega arith)
+pass x y z i j k a c = grind arith
 
 pub ahead_strict : (r : ℕ → ℕ) → Strict (ahead r)
 ahead_strict r = record {

@@ -9,10 +9,7 @@ use Rattle.sharing.proofs.Division.{cancel}
 use Rattle.sharing.proofs.Dealt.{Before, Dealt, dealt_from}
 
 not_both : (p q : ℕ) (vs : List ℤ) (i j : ℕ) → Before p q vs i j → Before p q vs j i → ⊥
-not_both p q vs i j (inl a) (inl b) = omega arith
-not_both p q vs i j (inl a) (inr b) = omega arith
-not_both p q vs i j (inr a) (inl b) = omega arith
-not_both p q vs i j (inr a) (inr b) = omega arith
+not_both p q vs i j a b = grind arith
 
 pub one_nearest : (p q : ℕ) (v t u : ℤ) → Nearest p q v t → Nearest p q v u → t ≡ u
 one_nearest p q v t u a b =
