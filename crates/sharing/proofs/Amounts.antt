@@ -137,8 +137,7 @@ module _ (a : ℤ) (ws ss : List ℤ) (h : Over a ws ss) where
   past k l = get_or_past ss k (pos 0) (omega (arith, long'))
 
 unsigned_abs_most : (s : ℤ) (v : ℕ) → pos 0 ≤ℤ s → s ≤ℤ pos v → nat_abs s ≤ v
-unsigned_abs_most (pos n) v a b = omega (arith, ints)
-unsigned_abs_most (negsuc n) v a b = absurd (omega (arith, ints))
+unsigned_abs_most s v a b = omega (arith, ints)
 
 pub fairly : Fairly
 fairly a ws ss h = record {

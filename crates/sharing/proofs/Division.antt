@@ -21,10 +21,7 @@ quotient_size (pos a) q h = omega arith
 quotient_size (negsuc a) q h = omega arith
 
 pub sum_size : (a b : ℤ) → nat_abs (a +ℤ b) ≤ nat_abs a + nat_abs b
-sum_size (pos a) (pos b) = omega arith
-sum_size (pos a) (negsuc b) = grind arith
-sum_size (negsuc a) (pos b) = grind arith
-sum_size (negsuc a) (negsuc b) = omega arith
+sum_size a b = omega (arith, ints)
 
 pub cancel : (m : ℕ) (a b : ℤ) → (pos m *ℤ a) <ℤ (pos m *ℤ b) → a <ℤ b
 cancel m a b h = by_lt_z a b (λ l. l) (λ l. absurd (omega (arith, ints, mul-le-mul_left m (le_out b a l))))

@@ -6,8 +6,7 @@ use Rattle.sharing.specs.Steps.{bit, count, ahead, rank_of, due_of}
 use Rattle.sharing.proofs.Sums.{total_le, total_lt, total_same, total_most}
 
 pub bit_most : (b : Bool) → bit b ≤ 1
-bit_most true = omega arith
-bit_most false = omega arith
+bit_most b = grind arith
 
 -- a strict order
 pub record Strict (b : ℕ → ℕ → Bool) : Type 0 where
@@ -59,7 +58,7 @@ abbrev Ahead : ℕ → ℕ → ℕ → ℕ → Type 0
 Ahead x y i j = (y < x) ⊎ ((x ≡ y) × (i < j))
 
 out : (x y i j : ℕ) → cond (ltb y x) true (cond (eqb x y) (ltb i j) false) ≡ true → Ahead x y i j
-out x y i j h = elim (cases_lt y x) [ inl l ↦ inl l | inr l ↦ inr (grind arith) ]
+out x y i j h = grind arith
 
 into : (x y i j : ℕ) → Ahead x y i j → cond (ltb y x) true (cond (eqb x y) (ltb i j) false) ≡ true
 into x y i j a = grind arith
