@@ -136,9 +136,6 @@ module _ (a : ℤ) (ws ss : List ℤ) (h : Over a ws ss) where
   past : (k : ℕ) → length ws ≤ k → at ss k ≡ pos 0
   past k l = get_or_past ss k (pos 0) (omega (arith, long'))
 
-unsigned_abs_most : (s : ℤ) (v : ℕ) → pos 0 ≤ℤ s → s ≤ℤ pos v → nat_abs s ≤ v
-unsigned_abs_most s v a b = omega (arith, ints)
-
 pub fairly : Fairly
 fairly a ws ss h = record {
   long = long' a ws ss h;
@@ -154,8 +151,10 @@ fairly a ws ss h = record {
   most = λ m k. elim (cases_lt k (length ws)) [
     | inl l ↦ omega (
       arith,
+      ints,
       unsigned_abs_signed a (at ss k),
-      unsigned_abs_most (signed a (at ss k)) (nat_abs (at ws k)) (apt a ws ss h k l).low ((apt a ws ss h k l).high (omega arith)),
+      (apt a ws ss h k l).low,
+      (apt a ws ss h k l).high (omega arith),
     )
     | inr l ↦ omega (arith, ap nat_abs (past a ws ss h k l))
   ];

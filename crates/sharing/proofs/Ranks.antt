@@ -27,17 +27,11 @@ module _ (b : ℕ → ℕ → Bool) (o : Strict b) where
   -- the first n, once the newcomer n has its place
   low : (n k i : ℕ) → i < n → k ≤ count n (λ j. b j n)
       → bit (ltb (count (suc n) (λ j. b j i)) k) ≡ bit (ltb (count n (λ j. b j i)) k)
-  low n k i l h = elim (cases_Bool (b n i)) [
-    | inl e ↦ let f = behind n i e in grind arith
-    | inr e ↦ grind arith
-  ]
+  low n k i l h = grind (arith, behind n i)
 
   high : (n k i : ℕ) → i < n → count n (λ j. b j n) < k
       → bit (ltb (count (suc n) (λ j. b j i)) k) ≡ bit (ltb (count n (λ j. b j i)) (k - 1))
-  high n k i l h = elim (cases_Bool (b n i)) [
-    | inl e ↦ grind arith
-    | inr e ↦ let f = before n i l e in grind arith
-  ]
+  high n k i l h = grind (arith, before n i l)
 
   pub ranks : (n k : ℕ) → count n (λ i. ltb (count n (λ j. b j i)) k) ≡ min k n
   ranks zero k = omega arith
