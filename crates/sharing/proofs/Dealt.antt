@@ -98,8 +98,7 @@ no_bit : (f : ℤ) (c : Bool) → f +ℤ pos (bit c) ≡ f → c ≡ false
 no_bit f c e = grind (arith, ints)
 
 one_of : (f s : ℤ) (c : Bool) → s ≡ f +ℤ pos (bit c) → (s ≡ f) ⊎ (s ≡ f +ℤ pos 1)
-one_of f s true e = inr e
-one_of f s false e = inl (omega (arith, ints))
+one_of f s c e = grind (arith, ints)
 
 -- what is due by rank is a sharing
 module _ (p q : ℕ) (vs ss : List ℤ) (k : ℕ) (h : 0 < q) (long : length ss ≡ length vs) where

@@ -75,10 +75,7 @@ pub ranked : (r : ℕ → ℕ) (n k : ℕ) → k ≤ n → count n (λ i. ltb (r
 ranked r n k h = omega (arith, ranks (ahead r) (ahead_strict r) n k)
 
 within : (r : ℕ → ℕ) (k j i : ℕ) → ahead r j i ≡ true → bit (ahead r k j) ≤ bit (ahead r k i)
-within r k j i t = elim (cases_Bool (ahead r k j)) [
-  | inl e ↦ let f = (ahead_strict r).along k j i e t in omega (arith, ap bit e, ap bit f)
-  | inr e ↦ omega (arith, ap bit e)
-]
+within r k j i t = grind (arith, (ahead_strict r).along k j i)
 
 -- the lower rank is ahead
 pub rank_order : (r : ℕ → ℕ) (n i j : ℕ) → j < n → rank_of n r i < rank_of n r j → ahead r i j ≡ true

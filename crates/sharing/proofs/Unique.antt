@@ -22,14 +22,7 @@ module _ (p q : ℕ) (vs : List ℤ) where
   no_more : (ss zs : List ℤ) (t : ℤ) → Dealt p q vs ss t → Dealt p q vs zs t → (i : ℕ) → i < length vs
       → at ss i ≡ floors p q vs i +ℤ pos 1 → at zs i ≡ floors p q vs i → ⊥
   no_more ss zs t a b i l x y =
-      let less : (j : ℕ) → j < length vs → at zs j ≤ℤ at ss j = λ j m.
-      elim (a.each j m) [
-        | inl e ↦ elim (b.each j m) [
-          | inl f ↦ omega (arith, ints)
-          | inr f ↦ absurd (not_both p q vs i j (a.first i j l m x e) (b.first j i m l f y))
-        ]
-        | inr e ↦ elim (b.each j m) [ inl f ↦ omega (arith, ints) | inr f ↦ omega (arith, ints) ]
-      ] in
+      let less : (j : ℕ) → j < length vs → at zs j ≤ℤ at ss j = λ j m. grind (arith, ints, a.each j m, b.each j m, not_both p q vs i j, a.first i j l m x, b.first j i m l) in
       let s = sum_to_lt (length vs) (at zs) (at ss) i l less (omega (arith, ints)) in
       let whole-a = ap (λ (n : ℕ). sum_to n (at ss)) a.long in
       let whole-b = ap (λ (n : ℕ). sum_to n (at zs)) b.long in
