@@ -68,7 +68,7 @@ module _ (p q : ℕ) (vs ss : List ℤ) (t : ℤ) (o : 0 < q) (h : Shared p q vs
   no_unit : (k : ℕ) → k < length vs → Part p q (at vs k) (at ss k -ℤ pos 1) 0 → ⊥
   no_unit k l u =
       let less : (j : ℕ) → j < length vs → (pos p *ℤ at vs j) ≤ℤ (pos q *ℤ at ss j) = λ j m.
-      elim (h.each j m).1 [ inl w ↦ above k j _ l m u w | inr w ↦ let s = up_by j _ w in omega (arith, ints) ] in
+      elim (h.each j m).1 [ inl w ↦ above k j _ l m u w | inr w ↦ omega (arith, ints, up_by j _ w) ] in
       let s = sum_to_lt (length vs) (λ j. pos p *ℤ at vs j) (λ j. pos q *ℤ at ss j) k l less (up_by k 0 u) in
       omega (
         arith,

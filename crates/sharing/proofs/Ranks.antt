@@ -1,7 +1,7 @@
 -- Of n places in a strict order, k have a rank below k.
-use Rattle.std.proofs.Common.{◌≡◌, ℕ, zero, suc, ◌-◌, ◌*◌, ◌<◌, ◌≤◌, min, Bool, true, false, cond, eqb, ltb, ◌⊎◌, ℤ, pos, ◌+ℤ◌, ap, inl, inr, arith}
+use Rattle.std.proofs.Common.{◌≡◌, ℕ, zero, suc, ◌-◌, ◌*◌, ◌<◌, ◌≤◌, min, Bool, true, false, cond, eqb, ltb, ◌⊎◌, ℤ, ap, inl, inr, arith}
 use Rattle.std.proofs.lemmas.Int.{ints}
-use Rattle.std.proofs.lemmas.Bool.{cases_lt, cases_eq, cases_Bool, le-ltb}
+use Rattle.std.proofs.lemmas.Bool.{cases_lt}
 use Rattle.sharing.specs.Steps.{bit, count, ahead, rank_of, due_of}
 use Rattle.sharing.proofs.Sums.{total_le, total_lt, total_same, total_most}
 
@@ -79,17 +79,10 @@ within r k j i t = grind (arith, (ahead_strict r).along k j i)
 
 -- the lower rank is ahead
 pub rank_order : (r : ℕ → ℕ) (n i j : ℕ) → j < n → rank_of n r i < rank_of n r j → ahead r i j ≡ true
-rank_order r n i j l h = elim (cases_Bool (ahead r i j)) [
-  | inl e ↦ e
-  | inr e ↦ elim (cases_eq i j) [
-    | inl s ↦ absurd (omega (arith, ap (rank_of n r) s))
-    | inr d ↦
-        let o = ahead_strict r in
-        let t : ahead r j i ≡ true = o.other i j d e in
-        let f : rank_of n r j ≤ rank_of n r i = total_le n _ _ (λ k m. within r k j i t) in
-        absurd (omega arith)
-  ]
-]
+rank_order r n i j l h =
+    let behind : ahead r j i ≡ true → rank_of n r j ≤ rank_of n r i = λ t. total_le n _ _ (λ k m. within r k j i t) in
+    let same : i ≡ j → rank_of n r i ≡ rank_of n r j = ap (rank_of n r) in
+    grind (arith, (ahead_strict r).other i j, behind, same)
 
 -- what is due depends on what the places have, and on nothing past them
 rank_same : (n : ℕ) (r s : ℕ → ℕ) (i : ℕ) → i < n → ((k : ℕ) → k < n → r k ≡ s k) → rank_of n r i ≡ rank_of n s i
@@ -99,4 +92,4 @@ pub due_same : (n : ℕ) (f h : ℕ → ℤ) (r s : ℕ → ℕ) (lacking i : �
 due_same n f h r s lacking i l e d = let a = rank_same n r s i l d in cc
 
 pub due_none : (n : ℕ) (f : ℕ → ℤ) (r : ℕ → ℕ) (lacking i : ℕ) → lacking ≡ 0 → f i ≡ due_of n f r lacking i
-due_none n f r lacking i z = let b : bit (ltb (rank_of n r i) lacking) ≡ 0 = ap bit (le-ltb _ _ (omega arith)) in omega (arith, ints, ap (λ (m : ℕ). f i +ℤ pos m) b)
+due_none n f r lacking i z = grind (arith, ints)

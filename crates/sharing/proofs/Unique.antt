@@ -1,5 +1,5 @@
 -- The rule leaves one list of shares and one total.
-use Rattle.std.proofs.Common.{◌≡◌, ℕ, ◌*◌, ◌<◌, List, length, ℤ, pos, ◌+ℤ◌, ◌≤ℤ◌, ◌<ℤ◌, sym, ap, ◌∙◌, inl, inr, arith}
+use Rattle.std.proofs.Common.{◌≡◌, ℕ, ◌*◌, ◌<◌, List, length, ℤ, pos, ◌+ℤ◌, ◌≤ℤ◌, ◌<ℤ◌, sym, ap, ◌∙◌, arith}
 use Rattle.std.proofs.lemmas.List.{ext_get_or}
 use Rattle.std.proofs.lemmas.Int.{ints}
 use Rattle.sharing.specs.Sharing.{at, Nearest, OneWay}
@@ -29,11 +29,7 @@ module _ (p q : ℕ) (vs : List ℤ) where
       omega (arith, ints, a.whole, b.whole)
 
   same_share : (ss zs : List ℤ) (t : ℤ) → Dealt p q vs ss t → Dealt p q vs zs t → (i : ℕ) → i < length vs → at ss i ≡ at zs i
-  same_share ss zs t a b i l =
-      elim (a.each i l) [
-        | inl e ↦ elim (b.each i l) [ inl f ↦ e ∙ sym f | inr f ↦ absurd (no_more zs ss t b a i l f e) ]
-        | inr e ↦ elim (b.each i l) [ inl f ↦ absurd (no_more ss zs t a b i l e f) | inr f ↦ e ∙ sym f ]
-      ]
+  same_share ss zs t a b i l = grind (arith, ints, a.each i l, b.each i l, no_more ss zs t a b i l, no_more zs ss t b a i l)
 
 one_dealt : (p q : ℕ) (vs ss zs : List ℤ) (t u : ℤ) → 0 < q → Dealt p q vs ss t → Dealt p q vs zs u → (ss ≡ zs) × (t ≡ u)
 one_dealt p q vs ss zs t u h a b =
