@@ -68,7 +68,7 @@ module _ (p q : ℕ) (vs ss : List ℤ) (t : ℤ) (o : 0 < q) (h : Shared p q vs
   no_unit : (k : ℕ) → k < length vs → Part p q (at vs k) (at ss k -ℤ pos 1) 0 → ⊥
   no_unit k l u =
       let less : (j : ℕ) → j < length vs → (pos p *ℤ at vs j) ≤ℤ (pos q *ℤ at ss j) = λ j m.
-      elim (h.each j m).1 [ inl w ↦ above k j _ l m u w | inr w ↦ let s = up_by j _ w in omega (arith, ints) ] in
+      elim (h.each j m).1 [ inl w ↦ above k j _ l m u w | inr w ↦ omega (arith, ints, up_by j _ w) ] in
       let s = sum_to_lt (length vs) (λ j. pos p *ℤ at vs j) (λ j. pos q *ℤ at ss j) k l less (up_by k 0 u) in
       omega (
         arith,
@@ -136,10 +136,6 @@ module _ (a : ℤ) (ws ss : List ℤ) (h : Over a ws ss) where
   past : (k : ℕ) → length ws ≤ k → at ss k ≡ pos 0
   past k l = get_or_past ss k (pos 0) (omega (arith, long'))
 
-unsigned_abs_most : (s : ℤ) (v : ℕ) → pos 0 ≤ℤ s → s ≤ℤ pos v → nat_abs s ≤ v
-unsigned_abs_most (pos n) v a b = omega (arith, ints)
-unsigned_abs_most (negsuc n) v a b = absurd (omega (arith, ints))
-
 pub fairly : Fairly
 fairly a ws ss h = record {
   long = long' a ws ss h;
@@ -155,8 +151,10 @@ fairly a ws ss h = record {
   most = λ m k. elim (cases_lt k (length ws)) [
     | inl l ↦ omega (
       arith,
+      ints,
       unsigned_abs_signed a (at ss k),
-      unsigned_abs_most (signed a (at ss k)) (nat_abs (at ws k)) (apt a ws ss h k l).low ((apt a ws ss h k l).high (omega arith)),
+      (apt a ws ss h k l).low,
+      (apt a ws ss h k l).high (omega arith),
     )
     | inr l ↦ omega (arith, ap nat_abs (past a ws ss h k l))
   ];

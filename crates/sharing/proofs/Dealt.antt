@@ -1,5 +1,5 @@
 -- Floors, and units to the first ranks, are a sharing, and every sharing is of this form.
-use Rattle.std.proofs.Common.{◌≡◌, ℕ, zero, suc, ◌+◌, ◌*◌, ◌/◌, ◌<◌, ◌≤◌, Bool, true, false, ltb, ◌⊎◌, List, length, ℤ, pos, ◌+ℤ◌, ◌-ℤ◌, ◌*ℤ◌, sym, refl, ap, ◌∙◌, inl, inr, mul-le-mul_left, arith}
+use Rattle.std.proofs.Common.{◌≡◌, ℕ, zero, suc, ◌+◌, ◌*◌, ◌/◌, ◌<◌, ◌≤◌, Bool, true, false, ltb, ◌⊎◌, List, length, ℤ, pos, ◌+ℤ◌, ◌-ℤ◌, ◌*ℤ◌, sym, ap, ◌∙◌, inl, inr, mul-le-mul_left, arith}
 use Rattle.std.proofs.lemmas.Int.{ints}
 use Rattle.std.proofs.lemmas.Bool.{cases_lt, ltb-true, ltb-false}
 use Rattle.sharing.specs.Sharing.{at, Part, Nearest, Shared}
@@ -92,16 +92,13 @@ lacking_most n q r k h l e =
 
 -- a share with a unit more has a rank below what is lacking, and one without has not
 with_bit : (f : ℤ) (c : Bool) → f +ℤ pos (bit c) ≡ f +ℤ pos 1 → c ≡ true
-with_bit f true e = refl
-with_bit f false e = absurd (omega (arith, ints))
+with_bit f c e = grind (arith, ints)
 
 no_bit : (f : ℤ) (c : Bool) → f +ℤ pos (bit c) ≡ f → c ≡ false
-no_bit f true e = absurd (omega (arith, ints))
-no_bit f false e = refl
+no_bit f c e = grind (arith, ints)
 
 one_of : (f s : ℤ) (c : Bool) → s ≡ f +ℤ pos (bit c) → (s ≡ f) ⊎ (s ≡ f +ℤ pos 1)
-one_of f s true e = inr e
-one_of f s false e = inl (omega (arith, ints))
+one_of f s c e = grind (arith, ints)
 
 -- what is due by rank is a sharing
 module _ (p q : ℕ) (vs ss : List ℤ) (k : ℕ) (h : 0 < q) (long : length ss ≡ length vs) where

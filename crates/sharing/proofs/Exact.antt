@@ -14,12 +14,7 @@ exact_limits p q vs e (wide few small l some bottom w) h = omega (arith, h.produ
 
 -- weights that are few and small pass no limit at nothing
 harmless : (vs : List ℤ) (e : Refusal) → Few vs → Small vs → Breaks 0 1 vs e → ⊥
-harmless vs e f s (many l) = omega arith
-harmless vs e f s (large few b) = omega (arith, b.2, s b.0 b.1)
-harmless vs e f s (high few small l) = omega arith
-harmless vs e f s (apart few small l (inl z)) = omega arith
-harmless vs e f s (apart few small l (inr z)) = omega arith
-harmless vs e f s (wide few small l some bottom w) = omega arith
+harmless vs e f s b = exact_limits 0 1 vs e b (record { few = f; small = s; top = omega arith; some = omega arith; bottom = omega arith; product = omega arith })
 
 pub exact_amounts : ExactAmounts
 exact_amounts a ws e (weights f b) h = harmless ws f h.limits.few h.limits.small b

@@ -1,13 +1,12 @@
 -- Of n places in a strict order, k have a rank below k.
-use Rattle.std.proofs.Common.{◌≡◌, ℕ, zero, suc, ◌-◌, ◌*◌, ◌<◌, ◌≤◌, min, Bool, true, false, cond, eqb, ltb, ◌⊎◌, ℤ, pos, ◌+ℤ◌, ap, inl, inr, arith}
+use Rattle.std.proofs.Common.{◌≡◌, ℕ, zero, suc, ◌-◌, ◌*◌, ◌<◌, ◌≤◌, min, Bool, true, false, cond, eqb, ltb, ◌⊎◌, ℤ, ap, inl, inr, arith}
 use Rattle.std.proofs.lemmas.Int.{ints}
-use Rattle.std.proofs.lemmas.Bool.{cases_lt, cases_eq, cases_Bool, le-ltb}
+use Rattle.std.proofs.lemmas.Bool.{cases_lt}
 use Rattle.sharing.specs.Steps.{bit, count, ahead, rank_of, due_of}
 use Rattle.sharing.proofs.Sums.{total_le, total_lt, total_same, total_most}
 
 pub bit_most : (b : Bool) → bit b ≤ 1
-bit_most true = omega arith
-bit_most false = omega arith
+bit_most b = grind arith
 
 -- a strict order
 pub record Strict (b : ℕ → ℕ → Bool) : Type 0 where
@@ -28,17 +27,11 @@ module _ (b : ℕ → ℕ → Bool) (o : Strict b) where
   -- the first n, once the newcomer n has its place
   low : (n k i : ℕ) → i < n → k ≤ count n (λ j. b j n)
       → bit (ltb (count (suc n) (λ j. b j i)) k) ≡ bit (ltb (count n (λ j. b j i)) k)
-  low n k i l h = elim (cases_Bool (b n i)) [
-    | inl e ↦ let f = behind n i e in grind arith
-    | inr e ↦ grind arith
-  ]
+  low n k i l h = grind (arith, behind n i)
 
   high : (n k i : ℕ) → i < n → count n (λ j. b j n) < k
       → bit (ltb (count (suc n) (λ j. b j i)) k) ≡ bit (ltb (count n (λ j. b j i)) (k - 1))
-  high n k i l h = elim (cases_Bool (b n i)) [
-    | inl e ↦ grind arith
-    | inr e ↦ let f = before n i l e in grind arith
-  ]
+  high n k i l h = grind (arith, before n i l)
 
   pub ranks : (n k : ℕ) → count n (λ i. ltb (count n (λ j. b j i)) k) ≡ min k n
   ranks zero k = omega arith
@@ -59,20 +52,16 @@ abbrev Ahead : ℕ → ℕ → ℕ → ℕ → Type 0
 Ahead x y i j = (y < x) ⊎ ((x ≡ y) × (i < j))
 
 out : (x y i j : ℕ) → cond (ltb y x) true (cond (eqb x y) (ltb i j) false) ≡ true → Ahead x y i j
-out x y i j h = elim (cases_lt y x) [ inl l ↦ inl l | inr l ↦ inr (grind arith) ]
+out x y i j h = grind arith
 
 into : (x y i j : ℕ) → Ahead x y i j → cond (ltb y x) true (cond (eqb x y) (ltb i j) false) ≡ true
-into x y i j (inl l) = grind arith
-into x y i j (inr l) = grind arith
+into x y i j a = grind arith
 
 pub ahead_out : (r : ℕ → ℕ) (i j : ℕ) → ahead r i j ≡ true → (r j < r i) ⊎ ((r i ≡ r j) × (i < j))
 ahead_out r i j h = out (r i) (r j) i j h
 
 pass : (x y z i j k : ℕ) → Ahead x y i j → Ahead y z j k → Ahead x z i k
-pass x y z i j k (inl a) (inl c) = inl (omega arith)
-pass x y z i j k (inl a) (inr c) = inl (omega arith)
-pass x y z i j k (inr a) (inl c) = inl (omega arith)
-pass x y z i j k (inr a) (inr c) = inr (omega arith)
+pass x y z i j k a c = grind arith
 
 pub ahead_strict : (r : ℕ → ℕ) → Strict (ahead r)
 ahead_strict r = record {
@@ -86,24 +75,14 @@ pub ranked : (r : ℕ → ℕ) (n k : ℕ) → k ≤ n → count n (λ i. ltb (r
 ranked r n k h = omega (arith, ranks (ahead r) (ahead_strict r) n k)
 
 within : (r : ℕ → ℕ) (k j i : ℕ) → ahead r j i ≡ true → bit (ahead r k j) ≤ bit (ahead r k i)
-within r k j i t = elim (cases_Bool (ahead r k j)) [
-  | inl e ↦ let f = (ahead_strict r).along k j i e t in omega (arith, ap bit e, ap bit f)
-  | inr e ↦ omega (arith, ap bit e)
-]
+within r k j i t = grind (arith, (ahead_strict r).along k j i)
 
 -- the lower rank is ahead
 pub rank_order : (r : ℕ → ℕ) (n i j : ℕ) → j < n → rank_of n r i < rank_of n r j → ahead r i j ≡ true
-rank_order r n i j l h = elim (cases_Bool (ahead r i j)) [
-  | inl e ↦ e
-  | inr e ↦ elim (cases_eq i j) [
-    | inl s ↦ absurd (omega (arith, ap (rank_of n r) s))
-    | inr d ↦
-        let o = ahead_strict r in
-        let t : ahead r j i ≡ true = o.other i j d e in
-        let f : rank_of n r j ≤ rank_of n r i = total_le n _ _ (λ k m. within r k j i t) in
-        absurd (omega arith)
-  ]
-]
+rank_order r n i j l h =
+    let behind : ahead r j i ≡ true → rank_of n r j ≤ rank_of n r i = λ t. total_le n _ _ (λ k m. within r k j i t) in
+    let same : i ≡ j → rank_of n r i ≡ rank_of n r j = ap (rank_of n r) in
+    grind (arith, (ahead_strict r).other i j, behind, same)
 
 -- what is due depends on what the places have, and on nothing past them
 rank_same : (n : ℕ) (r s : ℕ → ℕ) (i : ℕ) → i < n → ((k : ℕ) → k < n → r k ≡ s k) → rank_of n r i ≡ rank_of n s i
@@ -113,4 +92,4 @@ pub due_same : (n : ℕ) (f h : ℕ → ℤ) (r s : ℕ → ℕ) (lacking i : �
 due_same n f h r s lacking i l e d = let a = rank_same n r s i l d in cc
 
 pub due_none : (n : ℕ) (f : ℕ → ℤ) (r : ℕ → ℕ) (lacking i : ℕ) → lacking ≡ 0 → f i ≡ due_of n f r lacking i
-due_none n f r lacking i z = let b : bit (ltb (rank_of n r i) lacking) ≡ 0 = ap bit (le-ltb _ _ (omega arith)) in omega (arith, ints, ap (λ (m : ℕ). f i +ℤ pos m) b)
+due_none n f r lacking i z = grind (arith, ints)

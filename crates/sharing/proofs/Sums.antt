@@ -16,14 +16,7 @@ pub total_lt : (n : ℕ) (f h : ℕ → ℕ) (i : ℕ) → i < n → ((k : ℕ) 
 total_lt zero f h i l e s = omega arith
 total_lt (suc n) f h i l e s =
     let below : (k : ℕ) → k < n → f k ≤ h k = λ k m. e k (omega arith) in
-    let last : f n ≤ h n = e n (omega arith) in
-    elim (cases_lt i n) [
-      | inl m ↦ omega (arith, total_lt n f h i m below s)
-      | inr m ↦
-          let same : i ≡ n = omega arith in
-          let at_n : f n < h n = rw same at s in
-          omega (arith, total_le n f h below)
-    ]
+    grind (arith, total_lt n f h i, total_le n f h below, e n)
 
 pub total_same : (n : ℕ) (f h : ℕ → ℕ) → ((k : ℕ) → k < n → f k ≡ h k) → total n f ≡ total n h
 total_same n f h e = omega (arith, total_le n f h (λ k l. omega (arith, e k l)), total_le n h f (λ k l. omega (arith, e k l)))
@@ -56,14 +49,7 @@ pub sum_to_lt : (n : ℕ) (f h : ℕ → ℤ) (i : ℕ) → i < n → ((k : ℕ)
 sum_to_lt zero f h i l e s = absurd (omega arith)
 sum_to_lt (suc n) f h i l e s =
     let below : (k : ℕ) → k < n → f k ≤ℤ h k = λ k m. e k (omega arith) in
-    let last : f n ≤ℤ h n = e n (omega arith) in
-    elim (cases_lt i n) [
-      | inl m ↦ omega (arith, ints, sum_to_lt n f h i m below s)
-      | inr m ↦
-          let same : i ≡ n = omega arith in
-          let at_n : f n <ℤ h n = rw same at s in
-          omega (arith, ints, sum_to_le n f h below)
-    ]
+    grind (arith, ints, sum_to_lt n f h i, sum_to_le n f h below, e n)
 
 -- a product by a sum
 pub spread : (p : ℕ) (a b : ℤ) → pos p *ℤ (a +ℤ b) ≡ pos p *ℤ a +ℤ pos p *ℤ b

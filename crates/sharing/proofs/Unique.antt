@@ -1,5 +1,5 @@
 -- The rule leaves one list of shares and one total.
-use Rattle.std.proofs.Common.{◌≡◌, ℕ, ◌*◌, ◌<◌, List, length, ℤ, pos, ◌+ℤ◌, ◌≤ℤ◌, ◌<ℤ◌, sym, ap, ◌∙◌, inl, inr, arith}
+use Rattle.std.proofs.Common.{◌≡◌, ℕ, ◌*◌, ◌<◌, List, length, ℤ, pos, ◌+ℤ◌, ◌≤ℤ◌, ◌<ℤ◌, sym, ap, ◌∙◌, arith}
 use Rattle.std.proofs.lemmas.List.{ext_get_or}
 use Rattle.std.proofs.lemmas.Int.{ints}
 use Rattle.sharing.specs.Sharing.{at, Nearest, OneWay}
@@ -9,10 +9,7 @@ use Rattle.sharing.proofs.Division.{cancel}
 use Rattle.sharing.proofs.Dealt.{Before, Dealt, dealt_from}
 
 not_both : (p q : ℕ) (vs : List ℤ) (i j : ℕ) → Before p q vs i j → Before p q vs j i → ⊥
-not_both p q vs i j (inl a) (inl b) = omega arith
-not_both p q vs i j (inl a) (inr b) = omega arith
-not_both p q vs i j (inr a) (inl b) = omega arith
-not_both p q vs i j (inr a) (inr b) = omega arith
+not_both p q vs i j a b = grind arith
 
 pub one_nearest : (p q : ℕ) (v t u : ℤ) → Nearest p q v t → Nearest p q v u → t ≡ u
 one_nearest p q v t u a b =
@@ -25,25 +22,14 @@ module _ (p q : ℕ) (vs : List ℤ) where
   no_more : (ss zs : List ℤ) (t : ℤ) → Dealt p q vs ss t → Dealt p q vs zs t → (i : ℕ) → i < length vs
       → at ss i ≡ floors p q vs i +ℤ pos 1 → at zs i ≡ floors p q vs i → ⊥
   no_more ss zs t a b i l x y =
-      let less : (j : ℕ) → j < length vs → at zs j ≤ℤ at ss j = λ j m.
-      elim (a.each j m) [
-        | inl e ↦ elim (b.each j m) [
-          | inl f ↦ omega (arith, ints)
-          | inr f ↦ absurd (not_both p q vs i j (a.first i j l m x e) (b.first j i m l f y))
-        ]
-        | inr e ↦ elim (b.each j m) [ inl f ↦ omega (arith, ints) | inr f ↦ omega (arith, ints) ]
-      ] in
+      let less : (j : ℕ) → j < length vs → at zs j ≤ℤ at ss j = λ j m. grind (arith, ints, a.each j m, b.each j m, not_both p q vs i j, a.first i j l m x, b.first j i m l) in
       let s = sum_to_lt (length vs) (at zs) (at ss) i l less (omega (arith, ints)) in
       let whole-a = ap (λ (n : ℕ). sum_to n (at ss)) a.long in
       let whole-b = ap (λ (n : ℕ). sum_to n (at zs)) b.long in
       omega (arith, ints, a.whole, b.whole)
 
   same_share : (ss zs : List ℤ) (t : ℤ) → Dealt p q vs ss t → Dealt p q vs zs t → (i : ℕ) → i < length vs → at ss i ≡ at zs i
-  same_share ss zs t a b i l =
-      elim (a.each i l) [
-        | inl e ↦ elim (b.each i l) [ inl f ↦ e ∙ sym f | inr f ↦ absurd (no_more zs ss t b a i l f e) ]
-        | inr e ↦ elim (b.each i l) [ inl f ↦ absurd (no_more ss zs t a b i l e f) | inr f ↦ e ∙ sym f ]
-      ]
+  same_share ss zs t a b i l = grind (arith, ints, a.each i l, b.each i l, no_more ss zs t a b i l, no_more zs ss t b a i l)
 
 one_dealt : (p q : ℕ) (vs ss zs : List ℤ) (t u : ℤ) → 0 < q → Dealt p q vs ss t → Dealt p q vs zs u → (ss ≡ zs) × (t ≡ u)
 one_dealt p q vs ss zs t u h a b =

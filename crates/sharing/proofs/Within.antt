@@ -1,21 +1,17 @@
 -- What the limits keep in range.
 use Rattle.std.proofs.Common.{ℕ, zero, suc, ◌*◌, ◌<◌, ◌≤◌, List, length, ℤ, nat_abs, ap, mul-le-mul_left, arith}
+use Rattle.std.proofs.lemmas.Int.{ints}
 use Rattle.sharing.specs.Sharing.{at}
 use Rattle.sharing.specs.Limits.{Limits}
 use Rattle.sharing.specs.Steps.{sum_to, total, floors, rests, floor_of}
 use Rattle.sharing.proofs.Sums.{total_most, total_up, total_at, sizes_is}
-use Rattle.sharing.proofs.Division.{part, floor_size, sum_size}
+use Rattle.sharing.proofs.Division.{part, floor_size}
 
 -- the sum of the floors is no larger than the sum of the products
 floors_size : (p q : ℕ) (f : ℕ → ℤ) (n : ℕ) → 0 < q → nat_abs (sum_to n (λ k. floor_of p q (f k))) ≤ p * total n (λ k. nat_abs (f k))
 floors_size p q f zero h = omega arith
 floors_size p q f (suc n) h =
-    omega (
-      arith,
-      floors_size p q f n h,
-      sum_size (sum_to n (λ k. floor_of p q (f k))) (floor_of p q (f n)),
-      floor_size p q h (f n),
-    )
+    omega (arith, ints, floors_size p q f n h, floor_size p q h (f n))
 
 module _ (p q : ℕ) (vs : List ℤ) (h : Limits p q vs) where
   abbrev size : ℕ → ℕ

@@ -17,6 +17,7 @@ fn divide(rows: &mut [Row], fraction: Fraction) -> (i64, u64)
     ensures rests { (k : ℕ) → k < length rows.old → rest_at rows.new k ≡ rests fraction.p fraction.q (values rows.old) k }
     ensures floor_sum { result.0 ≡ sum_to (length rows.old) (floors fraction.p fraction.q (values rows.old)) }
     ensures rest_sum { result.1 ≡ total (length rows.old) (rests fraction.p fraction.q (values rows.old)) }
+    ensures small { (unsigned_abs result.0 ≤ 9000000000000000000) × (result.1 ≤ 40000000000000) }
 {
     let mut floor_sum = 0;
     let mut rest_sum = 0;

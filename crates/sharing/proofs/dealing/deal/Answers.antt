@@ -6,20 +6,10 @@ use Rattle.sharing.specs.Sharing.{at}
 use Rattle.sharing.specs.Rows.{values, shares, rest_at}
 use Rattle.sharing.specs.Steps.{sum_to, total, floors, rests, due_of}
 use Rattle.sharing.proofs.Ranks.{due_same, due_none}
-use Rattle.sharing.proofs.Within.{floor_within, floors_within, rests_within}
+use Rattle.sharing.proofs.Within.{floor_within}
 use Rattle.sharing.proofs.Dealt.{dealt}
 use Rattle.sharing.proofs.dealing.deal.Goals as goal
 use Rattle.sharing.proofs.dealing.deal.Goals.{then-lacking-gt0, else-lacking-gt0}
-
-pub overflow_mul-lacking : goal.overflow_mul-lacking
-overflow_mul-lacking c =
-    let n = length-map {A = Row} c.args.rows.now (λ r. r.value) in
-    omega (arith, c.divide-floor_sum.ensures.rest_sum, rests_within _ _ (values c.args.rows.now) c.requires (length c.args.rows.now) (omega arith))
-
-pub overflow_add-lacking : goal.overflow_add-lacking
-overflow_add-lacking c =
-    let n = length-map {A = Row} c.args.rows.now (λ r. r.value) in
-    omega (arith, c.requires.bottom, c.divide-floor_sum.ensures.rest_sum, rests_within _ _ (values c.args.rows.now) c.requires (length c.args.rows.now) (omega arith))
 
 pub hand_out-requires : goal.hand_out-requires
 hand_out-requires c = λ k l.
@@ -29,15 +19,7 @@ hand_out-requires c = λ k l.
 
 pub overflow_cast-result : goal.overflow_cast-result
 overflow_cast-result c =
-    let n = length-map {A = Row} c.args.rows.now (λ r. r.value) in
-    omega (
-      arith,
-      ints,
-      c.requires.bottom,
-      c.divide-floor_sum.ensures.rest_sum,
-      rests_within _ _ (values c.args.rows.now) c.requires (length c.args.rows.now) (omega arith),
-      div-le_self (2 * c.divide-floor_sum.result.1 + c.args.fraction.q) (2 * c.args.fraction.q),
-    )
+    omega (arith, ints, c.requires.bottom, c.divide-floor_sum.ensures.small.1, div-le_self (2 * c.divide-floor_sum.result.1 + c.args.fraction.q) (2 * c.args.fraction.q))
 
 -- the total that the code finds is the sum of the floors and what is lacking
 total_is : (z s : ℤ) (r q k : ℕ) → z ≡ s → nat_abs s ≤ 9000000000000000000 → r ≤ 40000000000000 → q ≤ 1000000000000 → k ≤ 2 * r + q
@@ -48,11 +30,9 @@ total_of : (c : goal.Joined-lacking-gt0) → let k = (2 * c.divide-floor_sum.res
     (SFits w64 (to_z w64 (of_z w64 c.divide-floor_sum.result.0) +ℤ to_z w64 k))
     × (to_z w64 (of_z w64 (to_z w64 (of_z w64 c.divide-floor_sum.result.0) +ℤ to_z w64 k)) ≡ sum_to (length c.args.rows.now) (floors c.args.fraction.p c.args.fraction.q (values c.args.rows.now)) +ℤ pos k)
 total_of c =
-    let vs = values c.args.rows.now in
-    let n = length-map {A = Row} c.args.rows.now (λ r. r.value) in
-    let m = length c.args.rows.now in
-    total_is _ _ c.divide-floor_sum.result.1 c.args.fraction.q _ c.divide-floor_sum.ensures.floor_sum (floors_within _ _ vs c.requires m (omega arith))
-    (omega (arith, c.divide-floor_sum.ensures.rest_sum, rests_within _ _ vs c.requires m (omega arith))) c.requires.bottom
+    let small = c.divide-floor_sum.ensures.small in
+    let sum = c.divide-floor_sum.ensures.floor_sum in
+    total_is _ _ c.divide-floor_sum.result.1 c.args.fraction.q _ sum (omega (arith, ap nat_abs sum, small.0)) small.1 c.requires.bottom
     (div-le_self (2 * c.divide-floor_sum.result.1 + c.args.fraction.q) (2 * c.args.fraction.q))
 
 pub overflow_add-result : goal.overflow_add-result

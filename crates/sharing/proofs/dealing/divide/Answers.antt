@@ -1,4 +1,4 @@
-use Rattle.std.proofs.Common.{◌≡◌, ℕ, ◌+◌, ◌<◌, List, length, get_or, ℤ, pos, refl, ap, ◌∙◌, arith, w64, SFits, to_z, of_z, rules}
+use Rattle.std.proofs.Common.{◌≡◌, ℕ, ◌+◌, ◌<◌, List, length, get_or, ℤ, pos, refl, ap, ◌∙◌, arith, w64, SFits, nat_abs, to_z, of_z, rules}
 use Rattle.std.proofs.lemmas.List.{length-map}
 use Rattle.std.proofs.Math.Seq.{map-set_same}
 use Rattle.std.proofs.lemmas.Int.{ints, to_z-of_z}
@@ -72,4 +72,13 @@ loop-row-preserved c =
       column_more {X = Row} (λ r. r.rest) 0 (rests p q vs) rs i _ l c.loop-row.invariant.2 rest,
       omega (arith, ints, floor, sum_to_more (floors p q vs) i, floor_within p q vs c.requires i (omega arith), floors_within p q vs c.requires (i + 1) (omega arith)),
       omega (arith, rest, total_more (rests p q vs) i),
+    )
+
+pub returns-clause-small : goal.returns-clause-small
+returns-clause-small c =
+    let vs = values c.args.rows.now in
+    let n = length-map {A = Row} c.args.rows.now (λ r. r.value) in
+    let m = c.loop-row.row-index in (
+      omega (arith, ap nat_abs c.loop-row.invariant.3, floors_within c.args.fraction.p c.args.fraction.q vs c.requires m (omega arith)),
+      omega (arith, c.loop-row.invariant.4, rests_within c.args.fraction.p c.args.fraction.q vs c.requires m (omega arith)),
     )
