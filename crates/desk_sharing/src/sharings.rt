@@ -2,7 +2,7 @@
 ghost use Rattle.desk_sharing.specs.Sharings.{ShareWords, Shares, AmountWords, Amounts};
 
 use crate::figures::{Shares, figures_of};
-use commands::{Command, Reply, Row, Then};
+use commands::{Command, Reply, Row};
 use lines::Fault;
 use lines::fields::Field;
 use sharing::{Fraction, share, share_amount};
@@ -21,13 +21,7 @@ impl Command<()> for ShareLine {
     ghost does = { λ x _ _ s. Shares x s };
 
     fn read(heap: Global, words: &[&str]) -> Result<ShareLine, Fault> {
-        let Then {
-            value: p,
-            rest: Then {
-                value: q,
-                rest: claims,
-            },
-        } = Then::<u64, Then<u64, Vec<i64>>>::read(heap, words)?;
+        let (p, (q, claims)) = <(u64, (u64, Vec<i64>))>::read(heap, words)?;
         let fraction = Fraction { p, q };
         Ok(ShareLine { fraction, claims })
     }
@@ -58,10 +52,7 @@ impl Command<()> for AmountLine {
     ghost does = { λ x _ _ s. Amounts x s };
 
     fn read(heap: Global, words: &[&str]) -> Result<AmountLine, Fault> {
-        let Then {
-            value: amount,
-            rest: weights,
-        } = Then::<i64, Vec<i64>>::read(heap, words)?;
+        let (amount, weights) = <(i64, Vec<i64>)>::read(heap, words)?;
         Ok(AmountLine { amount, weights })
     }
 
