@@ -8,7 +8,8 @@ use crate::setting::InHand;
 use commands::{Command, Reply, Row, carry_out};
 use kinds::Date;
 use lines::{Fault, Field};
-use rules::rules::BandRule;
+use rules::bands::parts::BandFigures;
+use rules::rules::Rule;
 use std::alloc::{AllocError, Global};
 
 /// `ask bands YYYY-MM-DD`: the bands of a date.
@@ -28,16 +29,18 @@ impl Command<InHand> for AskLine {
     }
 
     fn answer(&self, heap: Global, hand: &mut InHand) -> Result<Reply, AllocError> {
-        let Some(bands) = hand.bands(self.date) else {
+        let Some(bands) = hand.ask(self.date) else {
             return Ok(Reply::Text(format!(in heap; "no bands")?));
         };
-        let figures = bands.figures();
-        let la = figures.lower_allowed;
-        let lc = figures.lower_cumulable;
-        let uc = figures.upper_cumulable;
-        let ua = figures.upper_allowed;
-        let limit = figures.carry_limit;
-        Ok(Reply::Text(format!(in heap; "bands {la} {lc} {uc} {ua} {limit}")?))
+        let BandFigures {
+            lower_allowed,
+            lower_cumulable,
+            upper_cumulable,
+            upper_allowed,
+            carry_limit,
+        } = BandFigures::from(bands);
+        Ok(Reply::Text(format!(in heap;
+            "bands {lower_allowed} {lower_cumulable} {upper_cumulable} {upper_allowed} {carry_limit}")?))
     }
 }
 

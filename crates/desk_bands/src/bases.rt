@@ -2,7 +2,7 @@
 ghost use Rattle.std.specs.Prelude.{◌≡◌};
 ghost use Rattle.desk_bands.specs.Bases.{PerimeterWord, BaseWords, BaseSaid, ToleranceWords, ToleranceSaid};
 
-use commands::{Command, Reply, Row, refused_text};
+use commands::{Command, Reply, Row};
 use kinds::Month;
 use lines::{Fault, Field};
 use std::alloc::{AllocError, Global};
@@ -60,7 +60,7 @@ impl<S> Command<S> for BaseLine {
             self.allocations.as_slice(),
         ) {
             Ok(sum) => Ok(Reply::Text(format!(in heap; "base {sum}")?)),
-            Err(refusal) => Ok(Reply::Text(refused_text(heap, refusal)?)),
+            Err(refusal) => Ok(Reply::Refused(refusal)),
         }
     }
 }
@@ -87,7 +87,7 @@ impl<S> Command<S> for ToleranceLine {
             Ok((tolerance, bracket)) => {
                 Ok(Reply::Text(format!(in heap; "tolerance {tolerance} bracket {bracket}")?))
             }
-            Err(refusal) => Ok(Reply::Text(refused_text(heap, refusal)?)),
+            Err(refusal) => Ok(Reply::Refused(refusal)),
         }
     }
 }

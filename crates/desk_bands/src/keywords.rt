@@ -11,7 +11,7 @@ use commands::{Key, Reply, carry_out, first_key};
 use std::alloc::{AllocError, Global};
 
 /// The first word of a line on bands.
-#[derive(Clone, Copy)]
+#[derive(Clone, Copy, PartialEq, Eq, Debug)]
 pub enum Keyword {
     Base,
     Tolerance,
@@ -32,7 +32,7 @@ impl Key for Keyword {
 }
 
 /// The word after `bands`.
-#[derive(Clone, Copy)]
+#[derive(Clone, Copy, PartialEq, Eq, Debug)]
 pub enum BandsForm {
     None,
     Zero,
@@ -54,25 +54,67 @@ impl Key for BandsForm {
     }
 }
 
+impl BandsForm {
+    /// What is said to the words after `bands` and this form.
+    fn answer(
+        self,
+        heap: Global,
+        hand: &mut InHand,
+        words: &[&str],
+    ) -> Result<Reply, AllocError>
+        ensures { IfOk result (λ x. OfForm self (texts words.now) hand.old hand.new (said x)) }
+    {
+        match self {
+            BandsForm::None => carry_out::<InHand, NoneLine>(heap, hand, words, "bands none"),
+            BandsForm::Zero => carry_out::<InHand, ZeroLine>(heap, hand, words, "bands zero"),
+            BandsForm::Fixed => {
+                carry_out::<InHand, FixedLine>(heap, hand, words, "bands fixed LA LC UC UA LIMIT")
+            }
+            BandsForm::Schedule => carry_out::<InHand, ScheduleLine>(
+                heap,
+                hand,
+                words,
+                "bands schedule YYYY-MM PERIMETER BASE TOE THRESHOLD LIMIT TALON FORECAST..",
+            ),
+        }
+    }
+}
+
 /// What is said to the words after `bands`.
 fn answer_bands(heap: Global, hand: &mut InHand, words: &[&str]) -> Result<Reply, AllocError>
     ensures { IfOk result (λ x. Chosen spelled_form OfForm bands_form (texts words.now) hand.old hand.new (said x)) }
 {
-    let Some((form, rest)) = first_key::<BandsForm>(words) else {
-        return Ok(Reply::Unreadable("none, zero, fixed or schedule after bands"));
-    };
-    match form {
-        BandsForm::None => carry_out::<InHand, NoneLine>(heap, hand, rest, "bands none"),
-        BandsForm::Zero => carry_out::<InHand, ZeroLine>(heap, hand, rest, "bands zero"),
-        BandsForm::Fixed => {
-            carry_out::<InHand, FixedLine>(heap, hand, rest, "bands fixed LA LC UC UA LIMIT")
+    match first_key::<BandsForm>(words) {
+        Some((form, rest)) => form.answer(heap, hand, rest),
+        None => Ok(Reply::Unreadable("none, zero, fixed or schedule after bands")),
+    }
+}
+
+impl Keyword {
+    /// What is said to the words after this keyword.
+    fn answer(
+        self,
+        heap: Global,
+        hand: &mut InHand,
+        words: &[&str],
+    ) -> Result<Reply, AllocError>
+        ensures { IfOk result (λ x. Of self (texts words.now) hand.old hand.new (said x)) }
+    {
+        match self {
+            Keyword::Base => carry_out::<InHand, BaseLine>(
+                heap,
+                hand,
+                words,
+                "base YYYY-MM CAPACITY MONTHLY ALLOCATION..",
+            ),
+            Keyword::Tolerance => carry_out::<InHand, ToleranceLine>(
+                heap,
+                hand,
+                words,
+                "tolerance north-b|north-h|south BASE",
+            ),
+            Keyword::Bands => answer_bands(heap, hand, words),
         }
-        BandsForm::Schedule => carry_out::<InHand, ScheduleLine>(
-            heap,
-            hand,
-            rest,
-            "bands schedule YYYY-MM PERIMETER BASE TOE THRESHOLD LIMIT TALON FORECAST..",
-        ),
     }
 }
 
@@ -80,22 +122,8 @@ fn answer_bands(heap: Global, hand: &mut InHand, words: &[&str]) -> Result<Reply
 pub fn answer(heap: Global, hand: &mut InHand, words: &[&str]) -> Result<Option<Reply>, AllocError>
     ensures { IfOk result (λ o. Answered spelled Of (texts words.now) hand.old hand.new (option_map said o)) }
 {
-    let Some((keyword, rest)) = first_key::<Keyword>(words) else {
-        return Ok(None);
-    };
-    match keyword {
-        Keyword::Base => Ok(Some(carry_out::<InHand, BaseLine>(
-            heap,
-            hand,
-            rest,
-            "base YYYY-MM CAPACITY MONTHLY ALLOCATION..",
-        )?)),
-        Keyword::Tolerance => Ok(Some(carry_out::<InHand, ToleranceLine>(
-            heap,
-            hand,
-            rest,
-            "tolerance north-b|north-h|south BASE",
-        )?)),
-        Keyword::Bands => Ok(Some(answer_bands(heap, hand, rest)?)),
+    match first_key::<Keyword>(words) {
+        Some((keyword, rest)) => Ok(Some(keyword.answer(heap, hand, rest)?)),
+        None => Ok(None),
     }
 }

@@ -3,7 +3,7 @@ ghost use Rattle.std.specs.Prelude.{◌≡◌, []};
 ghost use Rattle.desk_bands.specs.Setting.{NoneSet, ZeroSet, FixedWords, FixedSet, ScheduleWords, ScheduleSet};
 
 use crate::bases::PerimeterName;
-use commands::{Command, Reply, Row, refused_text};
+use commands::{Command, Reply, Row};
 use kinds::Month;
 use lines::{Fault, Field};
 use rules::bands::Bands;
@@ -84,12 +84,12 @@ impl Command<InHand> for FixedLine {
     }
 
     fn answer(&self, heap: Global, hand: &mut InHand) -> Result<Reply, AllocError> {
-        match Bands::new(self.figures) {
+        match Bands::try_from(self.figures) {
             Ok(bands) => {
                 *hand = Either::This(Fixed { value: Some(bands) });
                 Ok(Reply::Text(format!(in heap; "ok")?))
             }
-            Err(refusal) => Ok(Reply::Text(refused_text(heap, refusal)?)),
+            Err(refusal) => Ok(Reply::Refused(refusal)),
         }
     }
 }
@@ -138,8 +138,11 @@ impl Command<InHand> for ScheduleLine {
                 *hand = Either::That(rule);
                 Ok(Reply::Text(format!(in heap; "ok")?))
             }
-            Err(RuleError::Memory) => Err(AllocError),
-            Err(RuleError::Refused(refusal)) => Ok(Reply::Text(refused_text(heap, refusal)?)),
+            // A match of its own: a nested pattern hides the refusal from the contract.
+            Err(error) => match error {
+                RuleError::Memory => Err(AllocError),
+                RuleError::Refused(refusal) => Ok(Reply::Refused(refusal)),
+            },
         }
     }
 }

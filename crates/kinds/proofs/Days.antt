@@ -1,7 +1,7 @@
 -- The laws of the calendar: how long a month is, the order of dates, and which date comes next.
 use Rattle.std.proofs.Common.{◌≡◌, ℕ, ◌+◌, ◌<◌, ◌≤◌, Bool, true, false, cond, ◌⊎◌, refl, inl, inr, ⊎_elim, arith}
 use Rattle.kinds.specs.declared.dates.Date.{Date}
-use Rattle.kinds.specs.Calendar.{is_leap, days_of, Exists, Last, Before, Tomorrow, OneNext}
+use Rattle.kinds.specs.Calendar.{is_leap, days_of, Exists, Last, Before, Tomorrow}
 
 february : (b : Bool) → (28 ≤ cond b 29 28) × (cond b 29 28 ≤ 29)
 february true = omega arith
@@ -24,12 +24,6 @@ pub december : (y : ℕ) → days_of y 12 ≡ 31
 unfolding days_of
 december y = refl
 
-pub before_irreflexive : (d : Date) → Before d d → ⊥
-before_irreflexive d h = omega arith
-
-pub before_transitive : (d e f : Date) → Before d e → Before e f → Before d f
-before_transitive d e f p q = grind arith
-
 abbrev pub date : ℕ → ℕ → ℕ → Date
 date y m k = record { year = y; month = m; day = k }
 
@@ -40,9 +34,6 @@ same_date d e p q r =
 pub before_total : (d e : Date) → Before d e ⊎ ((d ≡ e) ⊎ Before e d)
 before_total d e = grind (arith, same_date d e)
 
-pub one_next : OneNext
-one_next d e f p q = grind (arith, p.first f q.exists q.after, q.first e p.exists p.after)
-
 -- a later date is the next one where no date of the calendar is between
 between : (d e : Date) → Exists e → Before d e → ((x : Date) → Exists x → Before d x → Before x e → ⊥) → Tomorrow d e
 between d e h p none = record {
@@ -51,13 +42,7 @@ between d e h p none = record {
   first = λ x g q. ⊎_elim inr (⊎_elim inl (λ b. absurd (none x g q b))) (before_total e x);
 }
 
--- the next day, by `one_next` the only one, of a day that is not the last of its month
-pub next_in_month : (d : Date) → Exists d → (Last d → ⊥) → Tomorrow d (date d.year d.month (d.day + 1))
-next_in_month d h n =
-    let p : d.day < days_of d.year d.month = grind arith in
-    between _ _ (record { from = omega arith; to = omega arith }) (grind arith) (λ x g q b. omega arith)
-
--- of the last day of a month, before December and in December
+-- the next day of the last day of a month, before December and in December
 pub next_month : (d : Date) → Last d → d.month < 12 → Tomorrow d (date d.year (d.month + 1) 1)
 next_month d h p =
     between _ _ (record { from = omega arith; to = omega (arith, shortest d.year (d.month + 1)) }) (grind arith)

@@ -7,7 +7,7 @@ use crate::fields::{Fault, Field};
 use kinds::{Date, Month};
 
 /// The number that a digit writes.
-// `parse` of std would take a sign too.
+// By hand: `parse` takes a sign too.
 fn digit(byte: u8) -> Result<u8, Fault>
     ensures { Reads (Digit byte) result }
 {

@@ -48,6 +48,7 @@ pub trait Field: Sized {
         ensures { Reads (writes word.now) result };
 }
 
+// An impl for each number: one for all that `parse` reads would conflict with those of options and dates.
 impl Field for u8 {
     ghost writes = { NaturalBelow 8 };
 

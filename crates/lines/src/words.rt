@@ -31,6 +31,7 @@ pub fn split_words<'a>(heap: Global, text: &'a str) -> Result<Vec<&'a str>, Allo
 {
     let mut out = Vec::new(heap);
     let mut rest = text;
+    // A loop: `split` at a set of characters states nothing of its pieces that a proof could use.
     while let Some((word, after)) = rest.split_once([' ', '\t', '\r']) {
         keep(&mut out, word)?;
         rest = after;

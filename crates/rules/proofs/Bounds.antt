@@ -1,8 +1,15 @@
--- How large the numerators are, and how they are ordered.
-use Rattle.std.proofs.Common.{◌≡◌, ℕ, ◌+◌, ◌-◌, ◌*◌, ◌/◌, ◌<◌, ◌≤◌, sym, ap, ◌∙◌, add-mul, mul-add, arith}
-use native.Mathlib.Nat.{div-le_of_le-mul}
+-- How large the numerators and the figures are, and how they are ordered.
+use Rattle.std.proofs.Common.{◌≡◌, ℕ, ◌+◌, ◌-◌, ◌*◌, ◌/◌, ◌<◌, ◌≤◌, min, sym, ap, ◌∙◌, add-mul, mul-add, arith}
+use Rattle.std.proofs.Math.Nat.{div-le_of_le-mul}
 use Rattle.std.proofs.lemmas.Nat.{mul-le, le-div, div-add-mod'}
-use Rattle.rules.specs.Exact.{over, lower, upper, unit, inner}
+
+-- a tolerance, or both, times at most twice the whole of a share
+pub product_most : (x k : ℕ) → x ≤ 20000000000 → k ≤ 2400 → x * k ≤ 48000000000000
+product_most x k h l = mul-le x k 20000000000 2400 h l
+
+-- that times the talon
+pub talon_most : (x t : ℕ) → x ≤ 48000000000000 → t ≤ 100 → x * t ≤ 4800000000000000
+talon_most x t h l = mul-le x t 48000000000000 100 h l
 
 -- rounding down keeps an order
 pub div_mono : (a b k : ℕ) → 0 < k → a ≤ b → a / k ≤ b / k
@@ -12,66 +19,27 @@ div_mono a b k some h = le-div (a / k) b k some (omega (arith, div-add-mod' a k)
 at_most : (x d : ℕ) → x ≤ 10000000000000 * d → x / (100260 * d) ≤ 100000000
 at_most x d h = div-le_of_le-mul (100260 * d) (omega arith)
 
-pub record Small (s o n d t : ℕ) : Type 0 where
-  pub own : s * d ≤ 12000000000000
-  pub other : o * (d - n) ≤ 12000000000000
-  pub more : o * (d + n) ≤ 24000000000000
-  pub both : (s + o) * d ≤ 24000000000000
-  pub parts : (s + o) * d * t ≤ 2400000000000000
+-- no figure passes 100,000,000
+pub upper_most : (s o n d : ℕ) → s ≤ 10000000000 → o ≤ 10000000000 → n ≤ d → 100 * (s * d + o * (d + n)) / (100260 * d) ≤ 100000000
+upper_most s o n d h1 h2 h3 =
+    at_most _ d (omega (arith, mul-le s d 10000000000 d h1 (omega arith), mul-le o (d + n) 10000000000 (2 * d) h2 (omega arith)))
 
--- no figure passes 100,000,000, and a cumulable one is never above the allowed one of its side
-pub record Ranges (s o n d t i : ℕ) : Type 0 where
-  pub lower_in : i / over s o n d t ≤ lower s o n d t / over s o n d t
-  pub upper_in : (2 * unit s o n d t - i) / over s o n d t ≤ upper s o n d t / over s o n d t
-  pub low : lower s o n d t / over s o n d t ≤ 100000000
-  pub high : upper s o n d t / over s o n d t ≤ 100000000
-  pub limit : 5 * unit s o n d t / over s o n d t ≤ 100000000
+pub limit_most : (s o d t : ℕ) → s ≤ 10000000000 → o ≤ 10000000000 → t ≤ 100 → 5 * ((s + o) * d * t) / (100260 * d) ≤ 100000000
+limit_most s o d t h1 h2 h3 =
+    let both : (s + o) * d ≤ 20000000000 * d = mul-le (s + o) d 20000000000 d (omega arith) (omega arith) in
+    at_most _ d (omega (arith, mul-le ((s + o) * d) t (20000000000 * d) 100 both h3))
 
-module _ (s o n d t : ℕ) (h1 : s ≤ 10000000000) (h2 : o ≤ 10000000000) (h3 : n ≤ d) (h4 : d ≤ 1200) (h5 : t ≤ 100) where
-  pub small : Small s o n d t
-  small =
-      let b : (s + o) * d ≤ 24000000000000 = mul-le (s + o) d 20000000000 1200 (omega arith) h4 in
-      record {
-        own = mul-le s d 10000000000 1200 h1 h4;
-        other = mul-le o (d - n) 10000000000 1200 h2 (omega arith);
-        more = mul-le o (d + n) 10000000000 2400 h2 (omega arith);
-        both = b;
-        parts = mul-le ((s + o) * d) t 24000000000000 100 b h5;
-      }
+-- the outer figure of the upper side is never above the allowed one: the middle of the two edges is the unit at 100 percent
+pub outer_within : (s o n d t i : ℕ) → 0 < d → n ≤ d → t ≤ 100 → i ≡ min ((s + o) * d * t) (100 * (s * d + o * (d - n)))
+    → (2 * ((s + o) * d * t) - i) / (100260 * d) ≤ 100 * (s * d + o * (d + n)) / (100260 * d)
+outer_within s o n d t i some h1 h2 e =
+    let e1 : o * (d + n) ≡ o * d + o * n = mul-add o d n in
+    let back : d - n + n ≡ d = omega arith in
+    let e2 : o * (d - n) + o * n ≡ o * d = sym (mul-add o (d - n) n) ∙ ap (λ k. o * k) back in
+    let e3 : (s + o) * d ≡ s * d + o * d = add-mul s o d in
+    let all : (s + o) * d * t ≤ (s + o) * d * 100 = mul-le ((s + o) * d) t ((s + o) * d) 100 (omega arith) h2 in
+    let more : o * (d - n) ≤ o * (d + n) = mul-le o (d - n) o (d + n) (omega arith) (omega arith) in
+    div_mono _ _ (100260 * d) (omega arith) (omega arith)
 
-  -- the middle of the lower and the upper edge is the unit at 100 percent
-  middle : lower s o n d t + upper s o n d t ≡ 200 * ((s + o) * d)
-  middle =
-      let e1 : o * (d + n) ≡ o * d + o * n = mul-add o d n in
-      let back : d - n + n ≡ d = omega arith in
-      let e2 : o * (d - n) + o * n ≡ o * d = sym (mul-add o (d - n) n) ∙ ap (λ k. o * k) back in
-      let e3 : (s + o) * d ≡ s * d + o * d = add-mul s o d in
-      omega arith
-
-  outer_within : 2 * unit s o n d t - inner s o n d t ≤ upper s o n d t
-  outer_within =
-      let all : (s + o) * d * t ≤ (s + o) * d * 100 = mul-le ((s + o) * d) t ((s + o) * d) 100 (omega arith) h5 in
-      let more : o * (d - n) ≤ o * (d + n) = mul-le o (d - n) o (d + n) (omega arith) (omega arith) in
-      omega (arith, middle)
-
-  upper_most : upper s o n d t ≤ 10000000000000 * d
-  upper_most =
-      omega (arith, mul-le s d 10000000000 d h1 (omega arith), mul-le o (d + n) 10000000000 (2 * d) h2 (omega arith))
-
-  lower_most : lower s o n d t ≤ 10000000000000 * d
-  lower_most =
-      omega (arith, mul-le s d 10000000000 d h1 (omega arith), mul-le o (d - n) 10000000000 d h2 (omega arith))
-
-  limit_most : 5 * unit s o n d t ≤ 10000000000000 * d
-  limit_most =
-      let both : (s + o) * d ≤ 20000000000 * d = mul-le (s + o) d 20000000000 d (omega arith) (omega arith) in
-      omega (arith, mul-le ((s + o) * d) t (20000000000 * d) 100 both h5)
-
-  pub ranges : (i : ℕ) → 0 < d → i ≡ inner s o n d t → Ranges s o n d t i
-  ranges i some e = record {
-    lower_in = div_mono i (lower s o n d t) (100260 * d) (omega arith) (omega arith);
-    upper_in = div_mono (2 * unit s o n d t - i) (upper s o n d t) (100260 * d) (omega arith) (omega (arith, outer_within));
-    low = at_most (lower s o n d t) d lower_most;
-    high = at_most (upper s o n d t) d upper_most;
-    limit = at_most (5 * unit s o n d t) d limit_most;
-  }
+-- what the bands from exact fractions cite
+pub ruleset bounds = (product_most, talon_most, upper_most, limit_most, outer_within)

@@ -6,7 +6,7 @@ use Rattle.rules.specs.declared.prices.Prices.{Prices}
 use Rattle.rules.specs.declared.prices.parts.PriceFigures.{PriceFigures}
 
 abbrev pub price_figures_of : Prices → PriceFigures
-price_figures_of p = record { p1 = p.p1; buy = p.buy; sell = p.sell; p3 = p.p3 }
+price_figures_of p = record { p1 = p.p1.mills; buy = p.buy.mills; sell = p.sell.mills; p3 = p.p3.mills }
 
 -- each price is within its range
 pub record Priced (f : PriceFigures) : Type 0 where

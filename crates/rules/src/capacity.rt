@@ -10,14 +10,7 @@ use crate::rules::Fixed;
 pub fn no_capacity() -> Fixed<Bands>
     ensures { MatchOption result.value ⊥ (λ b. figures_of b ≡ zeros) }
 {
-    let zeros = BandFigures {
-        lower_allowed: 0,
-        lower_cumulable: 0,
-        upper_cumulable: 0,
-        upper_allowed: 0,
-        carry_limit: 0,
-    };
     Fixed {
-        value: Bands::new(zeros).ok(),
+        value: Bands::try_from(BandFigures::default()).ok(),
     }
 }

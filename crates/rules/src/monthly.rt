@@ -5,7 +5,7 @@ ghost use Rattle.rules.specs.Monthly.{on_date};
 use kinds::{Date, Month};
 
 /// A value or none for each day of a month, from its 1st on.
-#[derive(Drop)]
+#[derive(Drop, PartialEq, Eq, Debug)]
 pub struct Monthly<T> {
     pub month: Month,
     pub days: Vec<Option<T>>,
@@ -16,14 +16,10 @@ impl<T: Copy> Monthly<T> {
     pub fn on(&self, date: Date) -> Option<T>
         ensures { result ≡ on_date self.now.month self.now.days.items date }
     {
-        if date.year != self.month.year || date.month != self.month.month || date.day == 0 {
+        if date.month() != self.month {
             return None;
         }
-        let place = usize::from(date.day - 1);
-        if place < self.days.len() {
-            self.days[place]
-        } else {
-            None
-        }
+        let place = date.day.checked_sub(1)?;
+        self.days.get(usize::from(place)).copied().flatten()
     }
 }

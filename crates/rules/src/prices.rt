@@ -1,18 +1,13 @@
-//! A set of four prices, which stays within its range.
-ghost use Rattle.std.specs.Prelude.{◌≤◌};
+//! A set of four prices.
+use crate::price::Price;
 
-/// The prices of a day, in mills per MWh, each at most 400,000: P1, P2 where the pool is long (buy) and
-/// where it is short (sell), and P3.
-#[derive(Clone, Copy)]
+/// The prices of a day: P1, P2 where the pool is long (buy) and where it is short (sell), and P3.
+#[derive(Clone, Copy, PartialEq, Eq, Debug)]
 pub struct Prices {
-    p1: u32,
-    buy: u32,
-    sell: u32,
-    p3: u32,
-    ghost first: { p1 ≤ 400000 },
-    ghost bought: { buy ≤ 400000 },
-    ghost sold: { sell ≤ 400000 },
-    ghost third: { p3 ≤ 400000 },
+    pub p1: Price,
+    pub buy: Price,
+    pub sell: Price,
+    pub p3: Price,
 }
 
 pub mod formulas;

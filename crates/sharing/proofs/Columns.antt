@@ -1,7 +1,7 @@
 -- Columns of a table, and claims, as a loop goes over them.
 use Rattle.std.proofs.Common.{◌≡◌, ℕ, zero, suc, ◌+◌, ◌<◌, ◌≤◌, List, [], ◌∷◌, map, length, get_or, set, ℤ, pos, sym, refl, ap, ◌∙◌, inl, inr, arith, w64, SFits, to_z, of_z}
 use lib.Signed.{mag}
-use Rattle.std.proofs.lemmas.List.{ext_get_or, get_or-map, length-map, map-set, set-get_or, get_or-set_same, get_or-set_other}
+use Rattle.std.proofs.lemmas.List.{ext_get_or, get_or-map, length-map, map-set, get_or-set_same, get_or-set_other}
 use Rattle.std.proofs.lemmas.Int.{to_z-of_z}
 use Rattle.std.proofs.lemmas.Bool.{cases_lt}
 use Rattle.sharing.specs.Sharing.{at, Shared}
@@ -26,19 +26,6 @@ at_map f e (x ∷ xs) (suc k) = at_map f e xs k
 pub row_at : (f : Row → ℤ) (rs : List Row) (i : ℕ) (ys : List ℤ) → i < length rs → at (map f rs) i ≡ at ys i → SFits w64 (f (get_or rs i nil)) → to_z w64 (of_z w64 (f (get_or rs i nil))) ≡ at ys i
 row_at f rs i ys l e fits = to_z-of_z w64 (f (get_or rs i nil)) fits ∙ sym (get_or-map f rs i nil (pos 0) l) ∙ e
 
--- one claim more has taken its share, and those after it are as they were
-pub taken_more : {X : Type 0} (taking : X → ℤ → X) (due : ℕ → ℤ) (xs zs : List X) (i : ℕ) (y : X) → i < length zs
-    → ((k : ℕ) (d : X) → k < i → get_or zs k d ≡ taking (get_or xs k d) (due k)) → ((d : X) → y ≡ taking (get_or xs i d) (due i))
-    → (k : ℕ) (d : X) → k < i + 1 → get_or (set zs i y) k d ≡ taking (get_or xs k d) (due k)
-taken_more taking due xs zs i y l below here k d m = elim (cases_lt k i) [
-  | inl h ↦ get_or-set_other zs i k y d (omega arith) ∙ below k d h
-  | inr h ↦ let e : k ≡ i = omega arith in rw e (get_or-set_same zs i y d l ∙ here d)
-]
-
-pub rest_more : {Y : Type 0} (xs ys : List Y) (i : ℕ) (y : Y) → ((k : ℕ) (d : Y) → i ≤ k → get_or ys k d ≡ get_or xs k d)
-    → (k : ℕ) (d : Y) → i + 1 ≤ k → get_or (set ys i y) k d ≡ get_or xs k d
-rest_more xs ys i y rest k d m = get_or-set_other ys i k y d (omega arith) ∙ rest k d (omega arith)
-
 module _ {X Y : Type 0} (f : X → Y) (e : Y) where
   pub column_more : (S : ℕ → Y) (xs : List X) (i : ℕ) (y : X) → i < length xs
       → ((k : ℕ) → k < i → get_or (map f xs) k e ≡ S k) → f y ≡ S i → (k : ℕ) → k < i + 1 → get_or (map f (set xs i y)) k e ≡ S k
@@ -49,9 +36,6 @@ module _ {X Y : Type 0} (f : X → Y) (e : Y) where
 
   pub column_rest : (S : ℕ → Y) (xs : List X) (i : ℕ) (y : X) → ((k : ℕ) → i ≤ k → get_or (map f xs) k e ≡ S k) → (k : ℕ) → i + 1 ≤ k → get_or (map f (set xs i y)) k e ≡ S k
   column_rest S xs i y rest k m = rw map-set (get_or-set_other (map f xs) i k (f y) e (omega arith) ∙ rest k (omega arith))
-
-  pub column_kept : (xs : List X) (i : ℕ) (y d : X) → i < length xs → f y ≡ f (get_or xs i d) → map f (set xs i y) ≡ map f xs
-  column_kept xs i y d l h = map-set f xs i y ∙ ap (set (map f xs) i) (h ∙ sym (get_or-map f xs i d e l)) ∙ set-get_or (map f xs) i e
 
   pub column_all : (xs : List X) (ys : List Y) → length xs ≡ length ys → ((k : ℕ) → k < length ys → get_or (map f xs) k e ≡ get_or ys k e) → map f xs ≡ ys
   column_all xs ys l h = ext_get_or e (map f xs) ys (length-map xs f ∙ l) (λ k m. h k (omega (arith, length-map xs f)))
@@ -67,18 +51,21 @@ module _ {X : Type 0} (told held : X → ℤ) (taking : X → ℤ → X) (holds 
   at_column : (f : X → ℤ) (k : ℕ) (d : X) → k < length xs → at (map f zs) k ≡ f (taking (get_or xs k d) (at ss k))
   at_column f k d l = get_or-map f zs k d (pos 0) (omega arith) ∙ ap f (h k d l)
 
-  pub takes_held : map held zs ≡ ss
+  takes_held : map held zs ≡ ss
   takes_held = column_all held (pos 0) zs ss (same ∙ sym long) (λ k l.
       let m : k < length xs = omega arith in at_column held k (any xs k m) m ∙ holds _ _)
 
-  pub takes_taken : Taken told held taking xs zs
-  takes_taken = record {
-    tells = column_all told (pos 0) zs (map told xs) (same ∙ sym (length-map xs told)) (λ k l.
-        let m : k < length xs = omega (arith, length-map xs told) in
-        let d = any xs k m in
-        at_column told k d m ∙ tells _ _ ∙ sym (get_or-map told xs k d (pos 0) m));
-    only = λ k d l. h k d l ∙ ap (taking (get_or xs k d)) (sym (ap (λ ys. at ys k) takes_held));
-  }
+  pub as_taken : (map held zs ≡ ss) × Taken told held taking xs zs
+  as_taken = (
+    takes_held,
+    record {
+      tells = column_all told (pos 0) zs (map told xs) (same ∙ sym (length-map xs told)) (λ k l.
+          let m : k < length xs = omega (arith, length-map xs told) in
+          let d = any xs k m in
+          at_column told k d m ∙ tells _ _ ∙ sym (get_or-map told xs k d (pos 0) m));
+      only = λ k d l. h k d l ∙ ap (taking (get_or xs k d)) (sym (ap (λ ys. at ys k) takes_held));
+    },
+  )
 
 pub shared_same : (p q : ℕ) {vs ws ss zs : List ℤ} {t u : ℤ} → vs ≡ ws → zs ≡ ss → u ≡ t → Shared p q vs ss t → Shared p q ws zs u
 shared_same p q e f h d = rw (← e, f, h) d

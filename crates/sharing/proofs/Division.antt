@@ -1,7 +1,7 @@
 -- Division of a product: the quotient rounded downward, the remainder, and their sizes.
-use Rattle.std.proofs.Common.{◌≡◌, ℕ, zero, suc, ◌+◌, ◌*◌, ◌<◌, ◌≤◌, ℤ, pos, negsuc, ◌+ℤ◌, ◌*ℤ◌, neg_ℤ, nat_abs, ◌<ℤ◌, refl, ap, mul-le-mul_left, arith}
+use Rattle.std.proofs.Common.{◌≡◌, ℕ, ◌+◌, ◌*◌, ◌<◌, ◌≤◌, ℤ, pos, negsuc, ◌+ℤ◌, ◌*ℤ◌, nat_abs, ◌<ℤ◌, ap, mul-le-mul_left, arith}
 use borrow.Author.Differences.{le_out}
-use Rattle.std.proofs.lemmas.Int.{ints, by_lt_z}
+use Rattle.std.proofs.lemmas.Int.{ints, by_lt_z, unsigned_abs-mul}
 use Rattle.std.specs.Int.{int_div_euclid, int_rem_euclid}
 use Rattle.sharing.specs.Sharing.{Part}
 use Rattle.sharing.specs.Steps.{floor_of, rest_of}
@@ -20,14 +20,6 @@ quotient_size : (z : ℤ) (q : ℕ) → 0 < q → nat_abs (int_div_euclid z (pos
 quotient_size (pos a) q h = omega arith
 quotient_size (negsuc a) q h = omega arith
 
-neg_size : (n : ℕ) → nat_abs (neg_ℤ (pos n)) ≡ n
-neg_size zero = refl
-neg_size (suc n) = refl
-
-pub product_size : (p : ℕ) (v : ℤ) → nat_abs (pos p *ℤ v) ≡ p * nat_abs v
-product_size p (pos a) = refl
-product_size p (negsuc a) = neg_size (p * suc a)
-
 pub sum_size : (a b : ℤ) → nat_abs (a +ℤ b) ≤ nat_abs a + nat_abs b
 sum_size (pos a) (pos b) = omega arith
 sum_size (pos a) (negsuc b) = grind arith
@@ -42,7 +34,7 @@ module _ (p q : ℕ) (h : 0 < q) where
   part v = record { is = split (pos p *ℤ v) q h; below = rest_below (pos p *ℤ v) q h }
 
   pub floor_size : (v : ℤ) → nat_abs (floor_of p q v) ≤ p * nat_abs v
-  floor_size v = omega (arith, quotient_size (pos p *ℤ v) q h, product_size p v)
+  floor_size v = omega (arith, quotient_size (pos p *ℤ v) q h, unsigned_abs-mul (pos p) v)
 
   under : (v f g : ℤ) (x y : ℕ) → Part p q v f x → Part p q v g y → f <ℤ (g +ℤ pos 1)
   under v f g x y a b = cancel q f (g +ℤ pos 1) (omega (arith, ints, a.is, b.is, b.below, spread q g (pos 1)))

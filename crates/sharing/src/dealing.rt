@@ -48,7 +48,7 @@ fn hand_out(rows: &mut [Row], lacking: u64)
     ensures values { values rows.new ≡ values rows.old }
     ensures shares { (k : ℕ) → k < length rows.old → at (shares rows.new) k ≡ due_of (length rows.old) (at (shares rows.old)) (rest_at rows.old) lacking k }
 {
-    // By index: a rank reads the whole table while one row of it is written.
+    // By index and not `iter_mut`: each rank reads the whole table between two writes.
     for i in 0..rows.len() {
         let unit = (rank(rows, i) as u64) < lacking;
         rows[i].share += i64::from(unit);

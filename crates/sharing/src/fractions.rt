@@ -1,5 +1,5 @@
 //! The fraction of a sharing.
-ghost use Rattle.std.specs.Prelude.{◌≡◌, ◌*◌, ◌<◌, ◌≤◌, List, ℤ, unsigned_abs, MatchResult};
+ghost use Rattle.std.specs.Prelude.{◌≡◌, ◌*◌, ◌<◌, ◌≤◌, max, List, ℤ, unsigned_abs, MatchResult};
 ghost use Rattle.sharing.specs.Sharing.{sizes};
 ghost use Rattle.sharing.specs.Limits.{Few, Small, Limits, Breaks};
 ghost use Rattle.sharing.specs.Steps.{floor_of, rest_of};
@@ -14,6 +14,17 @@ pub struct Fraction {
 }
 
 impl Fraction {
+    /// The size of an amount over a sum of sizes; over one where the sum is nil.
+    pub(crate) fn over(amount: i64, sum: u64) -> Fraction
+        ensures p { result.p ≡ unsigned_abs amount }
+        ensures q { result.q ≡ max 1 sum }
+    {
+        Fraction {
+            p: amount.unsigned_abs(),
+            q: sum.max(1),
+        }
+    }
+
     /// Tests the fraction for claims that are few and small, with this sum of sizes.
     pub(crate) fn check(self, sum: u64) -> Result<(), Refusal>
         ensures { (vs : List ℤ) → Few vs → Small vs → sum ≡ sizes vs → MatchResult result (λ _. Limits self.p self.q vs) (λ e. Breaks self.p self.q vs e) }

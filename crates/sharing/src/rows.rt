@@ -33,6 +33,7 @@ pub fn read<'a, C: Claim>(
     }
     let rows = &mut table[..claims.len()];
     let mut sum = 0;
+    // By place and not a `zip` with `iter_mut`: then an invariant cannot name the rows.
     for (i, claim) in claims.iter().enumerate() {
         let value = claim.value();
         let size = value.unsigned_abs();
@@ -72,6 +73,7 @@ pub fn give<C: Claim>(claims: &mut [C], rows: &[Row])
     requires { length rows.now ≡ length claims.old }
     ensures { Takes C.taking (at (shares rows.now)) claims.old claims.new }
 {
+    // By place and not a `zip` with the rows: then an invariant cannot name the claims.
     for (i, claim) in claims.iter_mut().enumerate() {
         claim.take(rows[i].share);
     }

@@ -22,7 +22,7 @@ pub fn share<C: Claim>(claims: &mut [C], fraction: Fraction) -> Result<i64, Refu
     ensures exact { ExactLimits }
     ensures one_way { OneWay }
 {
-    // The ledger works in fixed memory, with no heap: the table has a row for each claim that there can be.
+    // On the stack, at its largest: the project's rule is fixed memory and no heap.
     let mut table = [Row::default(); MOST_CLAIMS];
     let (rows, sum) = read(claims, &mut table)?;
     fraction.check(sum)?;
@@ -46,10 +46,7 @@ pub fn share_amount<C: Claim>(claims: &mut [C], amount: i64) -> Result<(), Refus
     if sum == 0 && amount != 0 {
         return Err(Refusal::NoWeight);
     }
-    let part = Fraction {
-        p: amount.unsigned_abs(),
-        q: sum.max(1),
-    };
+    let part = Fraction::over(amount, sum);
     part.check(sum)?;
     by_size(rows);
     deal(rows, part);

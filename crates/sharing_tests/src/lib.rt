@@ -4,40 +4,37 @@
 #[cfg(test)]
 mod tests {
     use kinds::{Cents, Energy, Metered, Refusal};
-    use sharing::{CarriedClaim, EnergyClaim, MeteredClaim, share, share_amount};
+    use sharing::{CarriedClaim, EnergyClaim, Fraction, MeteredClaim, share, share_amount};
 
     fn energy(kwh: i64) -> EnergyClaim {
         EnergyClaim {
-            energy: Energy(kwh),
+            value: Energy(kwh),
             share: Energy(7),
         }
     }
 
     fn carried(kwh: i64) -> CarriedClaim {
         CarriedClaim {
-            carried: Energy(kwh),
-            cents: Cents(7),
+            value: Energy(kwh),
+            share: Cents(7),
         }
     }
 
     // The total, or the number of the refusal.
     fn told<T>(answer: Result<T, Refusal>) -> Result<T, u8> {
-        match answer {
-            Ok(total) => Ok(total),
-            Err(refusal) => Err(refusal.number()),
-        }
+        answer.map_err(|refusal| refusal.number())
     }
 
     // What a single claim is told at a fraction.
     fn alone(kwh: i64, p: u64, q: u64) -> Result<i64, u8> {
         let mut claims = [energy(kwh)];
-        told(share(&mut claims, p, q))
+        told(share(&mut claims, Fraction { p, q }))
     }
 
     #[test]
     fn halves_below_zero_go_up(rt: HostRuntime) {
         let mut claims = [energy(-1), energy(-1), energy(-1)];
-        assert_eq!(rt; told(share(&mut claims, 1, 2)), Ok(-1));
+        assert_eq!(rt; told(share(&mut claims, Fraction { p: 1, q: 2 })), Ok(-1));
         assert_eq!(rt; claims[0].share.0, 0);
         assert_eq!(rt; claims[1].share.0, 0);
         assert_eq!(rt; claims[2].share.0, -1);
@@ -46,18 +43,27 @@ mod tests {
     #[test]
     fn a_reading_takes_its_position(rt: HostRuntime) {
         let mut claims = [MeteredClaim {
-            reading: Metered(193),
-            position: Energy(0),
+            value: Metered(193),
+            share: Energy(0),
         }];
-        assert_eq!(rt; told(share(&mut claims, 10_000, 10_026)), Ok(192));
-        assert_eq!(rt; claims[0].position.0, 192);
-        assert_eq!(rt; claims[0].reading.0, 193);
+        assert_eq!(rt;
+            told(share(
+                &mut claims,
+                Fraction {
+                    p: 10_000,
+                    q: 10_026
+                }
+            )),
+            Ok(192)
+        );
+        assert_eq!(rt; claims[0].share.0, 192);
+        assert_eq!(rt; claims[0].value.0, 193);
     }
 
     #[test]
     fn no_claims(rt: HostRuntime) {
         let mut none: [EnergyClaim; 0] = [];
-        assert_eq!(rt; told(share(&mut none, 1, 2)), Ok(0));
+        assert_eq!(rt; told(share(&mut none, Fraction { p: 1, q: 2 })), Ok(0));
         assert_eq!(rt; told(share_amount(&mut none, 0)), Ok(()));
         assert_eq!(rt; told(share_amount(&mut none, 1)), Err(12));
     }
@@ -66,8 +72,8 @@ mod tests {
     fn forty_claims_and_no_more(rt: HostRuntime) {
         let mut most = [energy(1); 40];
         let mut more = [energy(1); 41];
-        assert_eq!(rt; told(share(&mut most, 1, 1)), Ok(40));
-        assert_eq!(rt; told(share(&mut more, 1, 1)), Err(12));
+        assert_eq!(rt; told(share(&mut most, Fraction { p: 1, q: 1 })), Ok(40));
+        assert_eq!(rt; told(share(&mut more, Fraction { p: 1, q: 1 })), Err(12));
         assert_eq!(rt; more[40].share.0, 7);
         assert_eq!(rt; told(share_amount(&mut more, 1)), Err(12));
     }
@@ -99,34 +105,34 @@ mod tests {
         assert_eq!(rt; alone(-450_000_001, 20_000_000_000, 1), Err(12));
         let mut claims = [carried(10_000_000_000), carried(1)];
         assert_eq!(rt; told(share_amount(&mut claims, 900_000_000)), Err(12));
-        assert_eq!(rt; claims[0].cents.0, 7);
+        assert_eq!(rt; claims[0].share.0, 7);
     }
 
     #[test]
     fn an_amount_below_zero(rt: HostRuntime) {
         let mut claims = [carried(1), carried(0), carried(-1), carried(1)];
         assert_eq!(rt; told(share_amount(&mut claims, -4)), Ok(()));
-        assert_eq!(rt; claims[0].cents.0, -2);
-        assert_eq!(rt; claims[1].cents.0, 0);
-        assert_eq!(rt; claims[2].cents.0, -1);
-        assert_eq!(rt; claims[3].cents.0, -1);
+        assert_eq!(rt; claims[0].share.0, -2);
+        assert_eq!(rt; claims[1].share.0, 0);
+        assert_eq!(rt; claims[2].share.0, -1);
+        assert_eq!(rt; claims[3].share.0, -1);
     }
 
     #[test]
     fn an_amount_at_its_limit(rt: HostRuntime) {
         let mut claims = [carried(1), carried(1)];
         assert_eq!(rt; told(share_amount(&mut claims, 20_000_000_001)), Err(12));
-        assert_eq!(rt; claims[1].cents.0, 7);
+        assert_eq!(rt; claims[1].share.0, 7);
         assert_eq!(rt; told(share_amount(&mut claims, -20_000_000_000)), Ok(()));
-        assert_eq!(rt; claims[1].cents.0, -10_000_000_000);
+        assert_eq!(rt; claims[1].share.0, -10_000_000_000);
     }
 
     #[test]
     fn weights_all_nil(rt: HostRuntime) {
         let mut claims = [carried(0), carried(0)];
         assert_eq!(rt; told(share_amount(&mut claims, -1)), Err(12));
-        assert_eq!(rt; claims[0].cents.0, 7);
+        assert_eq!(rt; claims[0].share.0, 7);
         assert_eq!(rt; told(share_amount(&mut claims, 0)), Ok(()));
-        assert_eq!(rt; claims[0].cents.0, 0);
+        assert_eq!(rt; claims[0].share.0, 0);
     }
 }

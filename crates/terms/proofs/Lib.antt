@@ -1,5 +1,3 @@
 -- The lemmas of this crate.
-pub mod Days
 pub mod Tolerances
 pub mod EachDay
-pub mod Exits

@@ -1,5 +1,5 @@
 -- A price rule over a month: the prices of each date from those of its series.
-use Rattle.std.specs.Prelude.{◌≡◌, ℕ, ◌+◌, None, vec_items, Option, MatchOption}
+use Rattle.std.specs.Prelude.{◌≡◌, ℕ, ◌+◌, ◌<◌, List, length, None, Option, MatchOption, slice_index_or}
 use Rattle.kinds.specs.declared.dates.Date.{Date}
 use Rattle.kinds.specs.declared.dates.Month.{Month}
 use Rattle.rules.specs.declared.day_price.DayPrice.{DayPrice}
@@ -12,7 +12,7 @@ use Rattle.rules.specs.Prices.{price_figures_of}
 
 -- what a month holds for a date
 abbrev pub on_day : {T : Type 0} → Monthly T → Date → Option T
-on_day m d = on_date m.month (vec_items m.days) d
+on_day m d = on_date m.month m.days.items d
 
 -- the day at a place of a month, the 1st at 0
 abbrev pub day_at : Month → ℕ → Date
@@ -30,6 +30,11 @@ By2012 r s o = MatchOption r (o ≡ None) (λ x. MatchOption s (o ≡ None) (λ 
 abbrev pub By2008 : Option DayPrice → Option DayPrice → Option DayPrice → Option Prices → Type 0
 By2008 r h s o =
     MatchOption r (o ≡ None) (λ x. MatchOption h (o ≡ None) (λ y. MatchOption s (o ≡ None) (λ z. Figured (from2008 x.cents y.cents z.cents) o)))
+
+-- the days hold what P says of each of the first n places, and no more
+pub record Filled {X : Type 0} (P : ℕ → Option X → Type 0) (n : ℕ) (days : List (Option X)) : Type 0 where
+  pub long : length days ≡ n
+  pub each : (k : ℕ) → k < n → P k (slice_index_or days k None)
 
 -- a rule over a month, which has for each date what P says
 pub record Over (month : Month) (P : Date → Option Prices → Type 0) (rule : Monthly Prices) : Type 0 where

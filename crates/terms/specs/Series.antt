@@ -1,5 +1,5 @@
 -- A series of day prices by the values of its days, and why values are no series.
-use Rattle.std.specs.Prelude.{◌≡◌, ℕ, ◌<◌, List, map, length, None, vec_items, Option, MatchOption, slice_index_or}
+use Rattle.std.specs.Prelude.{◌≡◌, ℕ, ◌<◌, List, map, length, None, Option, MatchOption, slice_index_or}
 use Rattle.std.specs.Option.{option_map}
 use Rattle.kinds.specs.declared.dates.Month.{Month}
 use Rattle.kinds.specs.declared.refusals.Refusal.{Refusal}
@@ -31,7 +31,7 @@ pub record Series (m : Month) (vs : List (Option ℕ)) (s : Monthly DayPrice) : 
   pub ruled : Ruled m
   pub daily : Daily m vs
   pub month : s.month ≡ m
-  pub days : map value_of (vec_items s.days) ≡ vs
+  pub days : map value_of s.days.items ≡ vs
 
 -- the month is tested first, then the number of the values, then each value
 pub data NoSeries (m : Month) (vs : List (Option ℕ)) : Refusal → Type 0 where

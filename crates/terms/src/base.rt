@@ -2,7 +2,7 @@
 ghost use Rattle.std.specs.Prelude.{◌<◌, length, MatchResult};
 ghost use Rattle.terms.specs.Base.{Largest, Based, Baseless};
 
-use crate::months::is_ruled;
+use crate::months::ruled_days;
 use crate::tolerance::MOST_BASE;
 use kinds::{Month, Refusal};
 
@@ -23,10 +23,7 @@ pub fn base(month: Month, capacity: u32, monthly: u32, allocations: &[u32]) -> R
         (Based month capacity monthly allocations.now)
         (Baseless month capacity monthly allocations.now) }
 {
-    if !is_ruled(month) {
-        return Err(Refusal::WrongMonth);
-    }
-    if allocations.len() != usize::from(month.days()) + 1 {
+    if allocations.len() != usize::from(ruled_days(month)?) + 1 {
         return Err(Refusal::WrongSeries);
     }
     let sum = u64::from(capacity) + u64::from(largest(allocations)) + u64::from(monthly);

@@ -6,6 +6,7 @@ use kinds::Refusal;
 use std::alloc::{AllocError, AllocFailed};
 
 /// Why no rule was made: memory failed, or the call was refused.
+// Its own enum, though `lines` has one of this shape: a shared one could have no `From` of a refusal here.
 #[derive(Clone, Copy)]
 pub enum RuleError {
     Memory,

@@ -1,6 +1,6 @@
 //! The price rules of 2012 and of 2008 over a month, from series of day prices.
 ghost use Rattle.std.specs.Prelude.{◌≡◌, IfOk};
-ghost use Rattle.terms.specs.PriceRules.{on_day, day_at, By2012, By2008, Over};
+ghost use Rattle.terms.specs.PriceRules.{on_day, day_at, By2012, By2008, Filled, Over};
 
 use kinds::Month;
 use rules::day_price::DayPrice;
@@ -12,29 +12,26 @@ use std::alloc::{AllocError, Global};
 fn price_at(series: &Monthly<DayPrice>, month: Month, place: usize) -> Option<DayPrice>
     ensures { result ≡ on_day series.now (day_at month place) }
 {
-    if series.month == month && place < series.days.len() {
-        series.days[place]
+    // By place and not by date, since a series can have more days than a date can number.
+    if series.month == month {
+        series.days.get(place).copied().flatten()
     } else {
         None
     }
 }
 
-/// A day's prices by the rule of 2012, where each series has a price.
-fn prices_2012(reference: Option<DayPrice>, supplement: Option<DayPrice>) -> Option<Prices>
-    ensures { By2012 reference supplement result }
+/// A rule over a month: what a formula answers at each place of its days, the 1st at 0.
+fn over<F: Fn(usize) -> Option<Prices>>(
+    heap: Global,
+    month: Month,
+    count: usize,
+    formula: F,
+) -> Result<Monthly<Prices>, AllocError>
+    requires { F.IsAlwaysCallable formula }
+    ensures { IfOk result (λ m. (m.month ≡ month) × Filled (F.post formula) count m.days.items) }
 {
-    Some(Prices::of_2012(reference?, supplement?))
-}
-
-/// A day's prices by the rule of 2008, where each series has a price.
-fn prices_2008(
-    reference: Option<DayPrice>,
-    hub: Option<DayPrice>,
-    supplement: Option<DayPrice>,
-) -> Option<Prices>
-    ensures { By2008 reference hub supplement result }
-{
-    Some(Prices::of_2008(reference?, hub?, supplement?))
+    let days = (0..count).map(&formula).collect(heap)?;
+    Ok(Monthly { month, days })
 }
 
 /// The rule of 2012 over the month of the reference: prices on each date on which the reference and
@@ -48,13 +45,11 @@ pub fn rule_2012(
         (λ d. By2012 (on_day reference.now d) (on_day supplement.now d))) }
 {
     let month = reference.month;
-    let mut days = Vec::new(heap);
-    for place in 0..reference.days.len() {
-        let referred = price_at(reference, month, place);
-        let supplied = price_at(supplement, month, place);
-        days.push(prices_2012(referred, supplied))?;
-    }
-    Ok(Monthly { month, days })
+    over(heap, month, reference.days.len(), |place| {
+        let referred = price_at(reference, month, place)?;
+        let supplied = price_at(supplement, month, place)?;
+        Some(Prices::of_2012(referred, supplied))
+    })
 }
 
 /// The rule of 2008 over the month of the reference: prices on each date on which the reference, the
@@ -69,12 +64,10 @@ pub fn rule_2008(
         (λ d. By2008 (on_day reference.now d) (on_day hub.now d) (on_day supplement.now d))) }
 {
     let month = reference.month;
-    let mut days = Vec::new(heap);
-    for place in 0..reference.days.len() {
-        let referred = price_at(reference, month, place);
-        let traded = price_at(hub, month, place);
-        let supplied = price_at(supplement, month, place);
-        days.push(prices_2008(referred, traded, supplied))?;
-    }
-    Ok(Monthly { month, days })
+    over(heap, month, reference.days.len(), |place| {
+        let referred = price_at(reference, month, place)?;
+        let traded = price_at(hub, month, place)?;
+        let supplied = price_at(supplement, month, place)?;
+        Some(Prices::of_2008(referred, traded, supplied))
+    })
 }

@@ -5,12 +5,13 @@ ghost use Rattle.terms.specs.Schedule.{Plausible, PlausibleOrNone, AllPlausible,
 ghost use Rattle.terms.specs.Tolerance.{thousandths};
 
 use crate::errors::RuleError;
-use crate::months::is_ruled;
+use crate::months::ruled_days;
 use crate::tolerance::{MOST_BASE, Perimeter};
 use kinds::{Month, Refusal};
 use rules::bands::Bands;
-use rules::bands::exact::temperature_share;
 use rules::monthly::Monthly;
+use rules::temperature::TemperatureShare;
+use rules::tolerances::Tolerances;
 use std::alloc::Global;
 
 /// The terms of a month's schedule.
@@ -34,29 +35,16 @@ pub struct Terms {
 fn is_plausible(temperature: i16) -> bool
     ensures { MatchBool result (Plausible temperature) (Plausible temperature → ⊥) }
 {
-    -600 <= temperature && temperature <= 600
+    (-600..=600).contains(&temperature)
 }
 
-/// Whether a forecast, if there is one, is within its range.
-fn is_plausible_or_none(forecast: Option<i16>) -> bool
-    ensures { MatchBool result (PlausibleOrNone forecast) (PlausibleOrNone forecast → ⊥) }
-{
-    match forecast {
-        Some(temperature) => is_plausible(temperature),
-        None => true,
-    }
-}
-
-/// Whether each forecast is within its range.
+/// Whether each forecast, where there is one, is within its range.
 fn are_plausible(forecasts: &[Option<i16>]) -> bool
     ensures { MatchBool result (AllPlausible forecasts.now) (AllPlausible forecasts.now → ⊥) }
 {
-    for forecast in forecasts {
-        if !is_plausible_or_none(*forecast) {
-            return false;
-        }
-    }
-    true
+    forecasts
+        .iter()
+        .all(|forecast| forecast.is_none_or(is_plausible))
 }
 
 impl Terms {
@@ -76,10 +64,7 @@ impl Terms {
     fn check(self, forecasts: &[Option<i16>]) -> Result<(), Refusal>
         ensures { MatchResult result (λ _. Fit self forecasts.now) (Unfit self forecasts.now) }
     {
-        if !is_ruled(self.month) {
-            return Err(Refusal::WrongMonth);
-        }
-        if forecasts.len() != usize::from(self.month.days()) {
+        if forecasts.len() != usize::from(ruled_days(self.month)?) {
             return Err(Refusal::WrongSeries);
         }
         if !self.are_sound() || !are_plausible(forecasts) {
@@ -95,12 +80,10 @@ impl Terms {
         requires plausible { PlausibleOrNone forecast }
         ensures { DayOf self forecast result }
     {
-        let Some(forecast) = forecast else {
-            return None;
-        };
+        let forecast = forecast?;
         let optional = u64::from(self.base) * u64::from(self.optional);
-        let (n, d) = temperature_share(forecast, self.threshold, self.limit);
-        Some(Bands::exact(standard, optional, n, d, self.talon))
+        let share = TemperatureShare::new(forecast, self.threshold, self.limit);
+        Some(Bands::exact(Tolerances { standard, optional }, share, self.talon))
     }
 }
 
@@ -118,10 +101,10 @@ pub fn schedule(
 {
     terms.check(forecasts)?;
     let (standard, _) = terms.perimeter.tolerance(terms.base)?;
-    let mut days = Vec::new(heap);
-    for forecast in forecasts {
-        days.push(terms.bands_at(standard, *forecast))?;
-    }
+    let days = forecasts
+        .iter()
+        .map(|forecast| terms.bands_at(standard, *forecast))
+        .collect(heap)?;
     Ok(Monthly {
         month: terms.month,
         days,

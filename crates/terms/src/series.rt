@@ -1,33 +1,15 @@
 //! A series of day prices: a price or none for each day of a month.
-ghost use Rattle.std.specs.Prelude.{◌≡◌, map, MatchResult};
+ghost use Rattle.std.specs.Prelude.{◌≡◌, ◌<◌, map, MatchResult};
 ghost use Rattle.kinds.specs.declared.refusals.Refusal.TheVariants.{TermOutOfRange};
 ghost use Rattle.terms.specs.Errors.{RefusedOn};
-ghost use Rattle.terms.specs.Series.{value_of, Above, SomeAbove, Series, NoSeries};
+ghost use Rattle.terms.specs.Series.{value_of, SomeAbove, Series, NoSeries};
 
 use crate::errors::RuleError;
-use crate::months::is_ruled;
+use crate::months::ruled_days;
 use kinds::{Month, Refusal};
 use rules::day_price::DayPrice;
 use rules::monthly::Monthly;
 use std::alloc::Global;
-
-/// The largest price of a day, in cents.
-pub const MOST_CENTS: u32 = 30_000;
-
-/// The price of a day of this value; refused where it is above the largest.
-fn price_of(value: Option<u32>) -> Result<Option<DayPrice>, Refusal>
-    ensures { MatchResult result (λ p. value_of p ≡ value) (λ e. Above value × (e ≡ TermOutOfRange)) }
-{
-    let Some(cents) = value else {
-        return Ok(None);
-    };
-    if cents > MOST_CENTS {
-        return Err(Refusal::TermOutOfRange);
-    }
-    Ok(Some(DayPrice {
-        cents: cents as u16,
-    }))
-}
 
 /// The prices of these values; refused where one is above the largest.
 fn prices_of(heap: Global, values: &[Option<u32>]) -> Result<Vec<Option<DayPrice>>, RuleError>
@@ -35,9 +17,10 @@ fn prices_of(heap: Global, values: &[Option<u32>]) -> Result<Vec<Option<DayPrice
         (λ v. map value_of v.items ≡ values.now)
         (RefusedOn (λ e. SomeAbove values.now × (e ≡ TermOutOfRange))) }
 {
+    // A chain that ends in `try_collect` was tried: its proof did not close at the value that is refused.
     let mut days = Vec::new(heap);
     for value in values {
-        days.push(price_of(*value)?)?;
+        days.push(value.map(DayPrice::try_from).transpose()?)?;
     }
     Ok(days)
 }
@@ -52,10 +35,7 @@ pub fn series(
 ) -> Result<Monthly<DayPrice>, RuleError>
     ensures { MatchResult result (Series month values.now) (RefusedOn (NoSeries month values.now)) }
 {
-    if !is_ruled(month) {
-        return Err(RuleError::Refused(Refusal::WrongMonth));
-    }
-    if values.len() != usize::from(month.days()) {
+    if values.len() != usize::from(ruled_days(month)?) {
         return Err(RuleError::Refused(Refusal::WrongSeries));
     }
     let days = prices_of(heap, values)?;

@@ -6,7 +6,7 @@ ghost use Rattle.terms.specs.Tolerance.{rates_of, thousandths, Ends};
 use kinds::Refusal;
 
 /// A balancing perimeter.
-#[derive(Clone, Copy)]
+#[derive(Clone, Copy, Debug, PartialEq, Eq)]
 pub enum Perimeter {
     NorthB,
     NorthH,
@@ -16,6 +16,15 @@ pub enum Perimeter {
 /// The largest base, in kWh a day.
 pub const MOST_BASE: u32 = 100_000_000;
 
+/// The brackets, from a lower to an upper edge in kWh a day.
+const BRACKETS: [(u32, u32); 5] = [
+    (0, 500_000),
+    (500_000, 1_000_000),
+    (1_000_000, 2_000_000),
+    (2_000_000, 50_000_000),
+    (50_000_000, MOST_BASE),
+];
+
 /// The part of the base between two edges.
 fn inside(base: u32, low: u32, high: u32) -> u64
     ensures { result ≡ min base high - low }
@@ -23,26 +32,17 @@ fn inside(base: u32, low: u32, high: u32) -> u64
     u64::from(base.min(high).saturating_sub(low))
 }
 
-/// The number of the bracket in which the base ends.
+/// The number of the bracket in which the base ends: one more than the edges between brackets that it
+/// is above.
 fn bracket(base: u32) -> u8
     ensures { Ends base result }
 {
-    if base <= 500_000 {
-        1
-    } else if base <= 1_000_000 {
-        2
-    } else if base <= 2_000_000 {
-        3
-    } else if base <= 50_000_000 {
-        4
-    } else {
-        5
-    }
+    1 + BRACKETS[1..].iter().filter(|(low, _)| *low < base).count() as u8
 }
 
 impl Perimeter {
     /// The rate of each bracket, in thousandths.
-    fn rates(self) -> [u64; 5]
+    fn rates(self) -> [u16; 5]
         ensures { result ≡ rates_of self }
     {
         match self {
@@ -62,12 +62,12 @@ impl Perimeter {
         if base > MOST_BASE {
             return Err(Refusal::TermOutOfRange);
         }
-        let [a, b, c, d, e] = self.rates();
-        let sum = a * inside(base, 0, 500_000)
-            + b * inside(base, 500_000, 1_000_000)
-            + c * inside(base, 1_000_000, 2_000_000)
-            + d * inside(base, 2_000_000, 50_000_000)
-            + e * inside(base, 50_000_000, MOST_BASE);
+        let rates = self.rates();
+        let sum = BRACKETS
+            .iter()
+            .zip(&rates)
+            .map(|((low, high), rate)| u64::from(*rate) * inside(base, *low, *high))
+            .sum();
         Ok((sum, bracket(base)))
     }
 }

@@ -5,8 +5,8 @@ ghost use Rattle.rules.specs.Bands.{figures_of, Ranged, Misfit};
 use crate::bands::Bands;
 use kinds::Refusal;
 
-/// Five figures, in the order of their names.
-#[derive(Clone, Copy)]
+/// Five figures, in the order of their names; by default five zeros.
+#[derive(Clone, Copy, PartialEq, Eq, Default, Debug)]
 pub struct BandFigures {
     pub lower_allowed: u32,
     pub lower_cumulable: u32,
@@ -20,6 +20,7 @@ pub const MOST: u32 = 100_000_000;
 
 impl BandFigures {
     /// Whether each figure is within its range.
+    // Five tests in a row need no proof; a chain over an array asks for one, that its places are the five fields.
     fn are_ranged(self) -> bool
         ensures { MatchBool result (Ranged self) (Ranged self → ⊥) }
     {
@@ -31,11 +32,14 @@ impl BandFigures {
     }
 }
 
-impl Bands {
-    /// The set of these figures; refused where one is out of its range, and then where they are not in order.
-    pub fn new(figures: BandFigures) -> Result<Bands, Refusal>
-        ensures { MatchResult result (λ b. figures_of b ≡ figures) (Misfit figures) }
-    {
+/// The set of these figures; refused where one is out of its range, and then where they are not in order.
+impl TryFrom<BandFigures> for Bands {
+    type Error = Refusal;
+
+    ghost try_from_gives = { λ figures r. MatchResult r (λ b. figures_of b ≡ figures) (Misfit figures) };
+
+    #[tactic(auto, using(crate::specs::Bands::ranged, crate::specs::Bands::ordered))]
+    fn try_from(figures: BandFigures) -> Result<Bands, Refusal> {
         if !figures.are_ranged() {
             return Err(Refusal::TermOutOfRange);
         }
@@ -57,17 +61,19 @@ impl Bands {
             carry_limit,
         })
     }
+}
 
-    /// The five figures.
-    pub fn figures(&self) -> BandFigures
-        ensures { result ≡ figures_of self.now }
-    {
+/// The five figures.
+impl From<Bands> for BandFigures {
+    ghost from_gives = { λ bands f. f ≡ figures_of bands };
+
+    fn from(bands: Bands) -> BandFigures {
         BandFigures {
-            lower_allowed: self.lower_allowed,
-            lower_cumulable: self.lower_cumulable,
-            upper_cumulable: self.upper_cumulable,
-            upper_allowed: self.upper_allowed,
-            carry_limit: self.carry_limit,
+            lower_allowed: bands.lower_allowed,
+            lower_cumulable: bands.lower_cumulable,
+            upper_cumulable: bands.upper_cumulable,
+            upper_allowed: bands.upper_allowed,
+            carry_limit: bands.carry_limit,
         }
     }
 }

@@ -1,5 +1,6 @@
 use Rattle.std.proofs.Common.{◌≡◌, ℕ, ◌+◌, ◌<◌, List, length, get_or, ℤ, pos, refl, ap, ◌∙◌, arith, w64, SFits, to_z, of_z, rules}
 use Rattle.std.proofs.lemmas.List.{length-map}
+use Rattle.std.proofs.Math.Seq.{map-set_same}
 use Rattle.std.proofs.lemmas.Int.{ints, to_z-of_z}
 use Rattle.sharing.specs.declared.rows.Row.{Row}
 use Rattle.sharing.specs.Sharing.{at}
@@ -7,7 +8,7 @@ use Rattle.sharing.specs.Rows.{values}
 use Rattle.sharing.specs.Steps.{floor_of, rest_of, floors, rests}
 use Rattle.sharing.proofs.Sums.{sum_to_more, total_more}
 use Rattle.sharing.proofs.Within.{product_within, floor_within, floors_within, rests_within}
-use Rattle.sharing.proofs.Columns.{nil, row_at, column_kept, column_more}
+use Rattle.sharing.proofs.Columns.{nil, row_at, column_more}
 use Rattle.sharing.proofs.dealing.divide.Goals as goal
 
 -- the value that is divided
@@ -66,7 +67,7 @@ loop-row-preserved c =
     let n = length-map {A = Row} c.args.rows.now (λ r. r.value) in
     let floor : to_z w64 (of_z w64 c.part_of-floor.result.0) ≡ floors p q vs i = to_z-of_z w64 _ (search rules) ∙ c.part_of-floor.ensures.floor ∙ ap (floor_of p q) e in
     let rest : c.part_of-floor.result.1 ≡ rests p q vs i = c.part_of-floor.ensures.rest ∙ ap (rest_of p q) e in (
-      column_kept {X = Row} (λ r. r.value) (pos 0) rs i _ nil l refl ∙ c.loop-row.invariant.0,
+      map-set_same {A = Row} (λ r. r.value) rs i _ nil refl ∙ c.loop-row.invariant.0,
       column_more {X = Row} (λ r. r.share) (pos 0) (floors p q vs) rs i _ l c.loop-row.invariant.1 floor,
       column_more {X = Row} (λ r. r.rest) 0 (rests p q vs) rs i _ l c.loop-row.invariant.2 rest,
       omega (arith, ints, floor, sum_to_more (floors p q vs) i, floor_within p q vs c.requires i (omega arith), floors_within p q vs c.requires (i + 1) (omega arith)),

@@ -1,12 +1,13 @@
 use Rattle.std.proofs.Common.{Bool, true, false, ◌≡◌, ℕ, ◌<◌, ltb, List, length, get_or, pos, ◌+ℤ◌, refl, ap, ◌∙◌, arith, w64, to_z, of_z, rules}
 use Rattle.std.specs.Int.{from_bool}
+use Rattle.std.proofs.Math.Seq.{map-set_same}
 use Rattle.std.proofs.lemmas.Int.{ints}
 use Rattle.sharing.specs.declared.rows.Row.{Row}
 use Rattle.sharing.specs.Sharing.{at}
 use Rattle.sharing.specs.Rows.{shares, remainders, rest_at}
 use Rattle.sharing.specs.Steps.{bit, rank_of, due_of}
 use Rattle.sharing.proofs.Ranks.{bit_most}
-use Rattle.sharing.proofs.Columns.{nil, row_at, column_kept, column_more, column_rest}
+use Rattle.sharing.proofs.Columns.{nil, row_at, column_more, column_rest}
 use Rattle.sharing.proofs.dealing.hand_out.Goals as goal
 
 -- the rank os it was before any unit was handed out
@@ -30,8 +31,8 @@ loop-i-preserved c =
     let most = bit_most (ltb (rank_of (length os) (rest_at os) i) c.args.lacking) in
     let small = c.requires i (omega arith) in
     let due : to_z w64 (of_z w64 (to_z w64 (of_z w64 (get_or rs i nil).share) +ℤ to_z w64 (of_z w64 c.from.result))) ≡ due_of (length os) (at (shares os)) (rest_at os) c.args.lacking i = omega (arith, ints) in (
-      column_kept {X = Row} (λ r. r.value) (pos 0) rs i _ nil l refl ∙ c.loop-i.invariant.0,
-      column_kept {X = Row} (λ r. r.rest) 0 rs i _ nil l refl ∙ c.loop-i.invariant.1,
+      map-set_same {A = Row} (λ r. r.value) rs i _ nil refl ∙ c.loop-i.invariant.0,
+      map-set_same {A = Row} (λ r. r.rest) rs i _ nil refl ∙ c.loop-i.invariant.1,
       column_more {X = Row} (λ r. r.share) (pos 0) (due_of (length os) (at (shares os)) (rest_at os) c.args.lacking) rs i _ l c.loop-i.invariant.2 due,
       column_rest {X = Row} (λ r. r.share) (pos 0) (at (shares os)) rs i _ c.loop-i.invariant.3,
     )

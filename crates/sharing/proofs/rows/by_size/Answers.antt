@@ -1,20 +1,12 @@
 use Rattle.std.proofs.Common.{◌<◌, map, length, pos, sym, refl, ap, ◌∙◌, arith, w64, rules}
 use Rattle.std.proofs.lemmas.List.{length-map}
-use Rattle.std.proofs.lemmas.Int.{ints, to_z-of_z}
+use Rattle.std.proofs.lemmas.Int.{to_z-of_z}
 use Rattle.sharing.specs.declared.rows.Row.{Row}
 use Rattle.sharing.specs.Sharing.{at}
 use Rattle.sharing.specs.Amounts.{size}
 use Rattle.sharing.specs.Rows.{values}
 use Rattle.sharing.proofs.Columns.{at_map, row_at, column_more, column_rest, column_all}
 use Rattle.sharing.proofs.rows.by_size.Goals as goal
-
-pub abs-row-requires : goal.abs-row-requires
-abs-row-requires c =
-    let rs = c.loop-row.rows in
-    let i = c.loop-row.row-index in
-    let vs = values c.args.rows.now in
-    let own = row_at (λ r. r.value) rs i vs (omega arith) (c.loop-row.invariant.1 i (omega arith)) (search rules) in
-    omega (arith, ints, own, c.requires i (rw length-map (omega arith)))
 
 pub loop-row-preserved : goal.loop-row-preserved
 loop-row-preserved c =

@@ -9,12 +9,6 @@ use Rattle.sharing.proofs.Columns.{nil, at_map, row_at, column_more, column_rest
 use Rattle.sharing.proofs.Signs.{signed_nil, signed_below, signed_above}
 use Rattle.sharing.proofs.rows.sign_by.Goals as goal
 
-pub overflow_sub-row : goal.overflow_sub-row
-overflow_sub-row c =
-    let i = c.loop-row.row-index in
-    let own = row_at (λ r. r.share) c.loop-row.rows i (shares c.args.rows.now) (omega arith) (c.loop-row.invariant.1 i (omega arith)) (search rules) in
-    omega (arith, ints, own, c.requires i)
-
 pub loop-row-preserved : goal.loop-row-preserved
 loop-row-preserved c =
     let rs = c.loop-row.rows in

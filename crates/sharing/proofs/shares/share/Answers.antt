@@ -2,7 +2,7 @@ use Rattle.std.proofs.Common.{◌≡◌, map, length, ap, ◌∙◌, w64, rules}
 use Rattle.std.proofs.lemmas.List.{length-map}
 use Rattle.std.proofs.lemmas.Int.{to_z-of_z}
 use Rattle.sharing.specs.Rows.{shares}
-use Rattle.sharing.proofs.Columns.{takes_held, takes_taken, shared_same}
+use Rattle.sharing.proofs.Columns.{as_taken, shared_same}
 use Rattle.sharing.proofs.Exact.{exact_limits}
 use Rattle.sharing.proofs.Unique.{one_way}
 use Rattle.sharing.proofs.shares.share.Goals as goal
@@ -25,12 +25,12 @@ returns-clause-shared g c =
     let ss = shares c.deal-total.new.rows in
     let same : length zs ≡ length xs = c.give.auto.claims in
     let long : length ss ≡ length xs = c.deal-total.ensures.shared.long ∙ ap length h.3 ∙ length-map xs told in
-    let is_held_lem = takes_held told held taking met.holds met.tells ss xs zs same long c.give.ensures in
+    let taken = as_taken told held taking met.holds met.tells ss xs zs same long c.give.ensures in
     let total = to_z-of_z w64 c.deal-total.result (search rules) in
     record {
       limits = c.in_ok-check.ensures (map told xs) h.0 h.1 h.2;
-      shared = shared_same _ _ h.3 is_held_lem total c.deal-total.ensures.shared;
-      taken = takes_taken told held taking met.holds met.tells ss xs zs same long c.give.ensures;
+      shared = shared_same _ _ h.3 taken.0 total c.deal-total.ensures.shared;
+      taken = taken.1;
     }
 
 pub returns-clause-exact : goal.returns-clause-exact

@@ -1,11 +1,11 @@
-use Rattle.std.proofs.Common.{◌≡◌, ℕ, List, map, length, ℤ, pos, nat_abs, refl, ap, ◌∙◌, arith, w64, SFits, to_z, of_z}
+use Rattle.std.proofs.Common.{◌≡◌, ℕ, List, map, length, ℤ, pos, nat_abs, max, refl, ap, ◌∙◌, arith, w64, SFits, to_z, of_z}
 use Rattle.std.proofs.lemmas.List.{length-map}
 use Rattle.std.proofs.lemmas.Result.{err_from_is_err_and}
 use Rattle.std.proofs.lemmas.Int.{ints, to_z-of_z}
 use Rattle.sharing.specs.Sharing.{sizes, Shared}
 use Rattle.sharing.specs.Amounts.{size, signed, whole, weights, nothing, beyond}
 use Rattle.sharing.specs.Rows.{values, shares}
-use Rattle.sharing.proofs.Columns.{takes_held, takes_taken}
+use Rattle.sharing.proofs.Columns.{as_taken}
 use Rattle.sharing.proofs.Amounts.{limits_sized, over_from, low_from, fairly, one_over}
 use Rattle.sharing.proofs.Exact.{exact_amounts}
 use Rattle.sharing.proofs.shares.share_amount.Goals as goal
@@ -25,15 +25,13 @@ returns-then-amount-ne0 g c =
       one_over = one_over;
     }
 
-size_is : (a : ℤ) (n : ℕ) → SFits w64 a → n ≡ nat_abs (to_z w64 (of_z w64 a)) → n ≡ nat_abs a
-size_is a n fits e = e ∙ ap nat_abs (to_z-of_z w64 a fits)
+-- the fraction is the size of the amount over the sizes of the weights
+part_is : (a : ℤ) (ws : List ℤ) {p q n : ℕ} → SFits w64 a → p ≡ nat_abs (to_z w64 (of_z w64 a)) → q ≡ max 1 n → n ≡ sizes ws → (p ≡ nat_abs a) × (q ≡ whole ws)
+part_is a ws fits e f h = (e ∙ ap nat_abs (to_z-of_z w64 a fits), omega arith)
 
 -- what is dealt out is a part of the size of the amount, over the sizes of the weights
 shared_as : (a : ℤ) (ws : List ℤ) {p q : ℕ} {vs ss : List ℤ} {t : ℤ} → p ≡ nat_abs a → q ≡ whole ws → vs ≡ map size ws → Shared p q vs ss t → Shared (nat_abs a) (whole ws) (map size ws) ss t
 shared_as a ws e f h d = rw (← e, ← f, ← h) d
-
-pub by_size-requires : goal.by_size-requires
-by_size-requires g c = let h = c.in_ok-rows.ensures in rw h.3 h.1
 
 pub deal-requires : goal.deal-requires
 deal-requires g c =
@@ -47,10 +45,9 @@ sign_by-requires g c =
     let ws = map g.C.Claim.told c.args.claims.now in
     let a = c.args.amount in
     let h = c.in_ok-rows.ensures in
-    let p = size_is a _ c.ranges.amount c.unsigned_abs.ensures.value in
-    let q : c.max.result ≡ whole ws = omega (arith, c.max.ensures, h.2) in
+    let part = part_is a ws c.ranges.amount c.over-part.ensures.p c.over-part.ensures.q h.2 in
     let n : sizes ws ≡ 0 → a ≡ pos 0 = λ z. omega (arith, ints, h.2, c.else-sum-eq0.either) in
-    low_from a ws _ _ n (shared_as a ws p q (c.by_size.ensures ∙ ap (map size) h.3) c.deal.ensures.shared)
+    low_from a ws _ _ n (shared_as a ws part.0 part.1 (c.by_size.ensures ∙ ap (map size) h.3) c.deal.ensures.shared)
 
 pub returns : goal.returns
 returns g c =
@@ -63,20 +60,19 @@ returns g c =
     let ws = map told xs in
     let a = c.args.amount in
     let h = c.in_ok-rows.ensures in
-    let p = size_is a _ c.ranges.amount c.unsigned_abs.ensures.value in
     let n : sizes ws ≡ 0 → a ≡ pos 0 = λ z. omega (arith, ints, h.2, c.else-sum-eq0.either) in
-    let q : c.max.result ≡ whole ws = omega (arith, c.max.ensures, h.2) in
-    let sh = shared_as a ws p q (c.by_size.ensures ∙ ap (map size) h.3) c.deal.ensures.shared in
+    let part = part_is a ws c.ranges.amount c.over-part.ensures.p c.over-part.ensures.q h.2 in
+    let sh = shared_as a ws part.0 part.1 (c.by_size.ensures ∙ ap (map size) h.3) c.deal.ensures.shared in
     let ss = shares c.sign_by.new.rows in
     let same : length zs ≡ length xs = c.give.auto.claims in
     let turned : ss ≡ map (signed a) (shares c.deal.new.rows) = c.sign_by.ensures ∙ ap (λ (z : ℤ). map (signed z) (shares c.deal.new.rows)) (to_z-of_z w64 a c.ranges.amount) in
     let long : length ss ≡ length xs = ap length turned ∙ length-map (shares c.deal.new.rows) (signed a) ∙ sh.long ∙ length-map ws size ∙ length-map xs told in
-    let is_held_lem = takes_held told held taking met.holds met.tells ss xs zs same long c.give.ensures in
+    let taken = as_taken told held taking met.holds met.tells ss xs zs same long c.give.ensures in
     record {
       shared = record {
-        sharable = record { limits = rw (p, q) at (c.in_ok-check.ensures ws h.0 h.1 h.2); nothing = n };
-        over = rw (is_held_lem ∙ turned) (over_from a ws (shares c.deal.new.rows) _ n sh);
-        taken = takes_taken told held taking met.holds met.tells ss xs zs same long c.give.ensures;
+        sharable = record { limits = rw (part.0, part.1) at (c.in_ok-check.ensures ws h.0 h.1 h.2); nothing = n };
+        over = rw (taken.0 ∙ turned) (over_from a ws (shares c.deal.new.rows) _ n sh);
+        taken = taken.1;
       };
       exact = exact_amounts;
       fair = fairly;
@@ -87,9 +83,8 @@ pub returns-in_err-check : goal.returns-in_err-check
 returns-in_err-check g c =
     let ws = map g.C.Claim.told c.args.claims.now in
     let h = c.in_ok-rows.ensures in
-    let p = size_is c.args.amount _ c.ranges.amount c.unsigned_abs.ensures.value in
     let n : sizes ws ≡ 0 → c.args.amount ≡ pos 0 = λ z. omega (arith, ints, h.2, c.else-sum-eq0.either) in
-    let q : c.max.result ≡ whole ws = omega (arith, c.max.ensures, h.2) in
-    let e = rw (p, q) at (c.in_err-check.ensures ws h.0 h.1 h.2) in
+    let part = part_is c.args.amount ws c.ranges.amount c.over-part.ensures.p c.over-part.ensures.q h.2 in
+    let e = rw (part.0, part.1) at (c.in_err-check.ensures ws h.0 h.1 h.2) in
     let x = err_from_is_err_and c.from_residual-in_err-check.result c.from_residual-in_err-check.ensures.1 in
     record { shared = rw (x.1, x.2) (beyond _ n e, refl); exact = exact_amounts; fair = fairly; one_over = one_over }

@@ -1,31 +1,10 @@
-use Rattle.std.proofs.Common.{◌≡◌, length, None, vec_items, Option, refl, arith}
-use Rattle.std.proofs.lemmas.Result.{IfOk-from_err}
-use Rattle.terms.specs.PriceRules.{on_day, By2012}
-use Rattle.rules.specs.declared.day_price.DayPrice.{DayPrice}
-use Rattle.rules.specs.declared.prices.Prices.{Prices}
-use Rattle.terms.proofs.EachDay.{more, on_each}
+use Rattle.std.proofs.Common.{rules, refl, arith}
+use Rattle.std.proofs.lemmas.Result.{IfOk-weaker}
+use Rattle.terms.proofs.EachDay.{over_month}
 use Rattle.terms.proofs.price_rules.rule_2012.Goals as goal
-
-none : (r s : Option DayPrice) → r ≡ None → By2012 r s None
-none r s e = rw e refl
-
-moved : (r r' s s' : Option DayPrice) (o : Option Prices) → r ≡ r' → s ≡ s' → By2012 r s o → By2012 r' s' o
-moved r r' s s' o p q h = rw (← p, ← q) h
-
-pub returns-in_err-push : goal.returns-in_err-push
-returns-in_err-push c = IfOk-from_err c.from_residual.result _ c.from_residual.ensures.0
-
-pub loop-place-preserved : goal.loop-place-preserved
-loop-place-preserved c =
-    more _ c.loop-place.place _ _ _ c.in_ok-push.ensures.items
-    (moved _ _ _ _ c.prices_2012.result c.price_at-referred.ensures c.price_at-supplied.ensures c.prices_2012.ensures) c.loop-place.invariant
 
 pub returns : goal.returns
 returns c =
     let r = c.args.reference.now in
     let s = c.args.supplement.now in
-    let all : c.loop-place.place ≡ length (vec_items r.days) = omega (arith, r.days.ok.0) in
-    record {
-      same = refl;
-      each = on_each r.month (vec_items r.days) _ (λ d. By2012 (on_day r d) (on_day s d)) (λ d e. none (on_day r d) (on_day s d) e) (rw (← all) c.loop-place.invariant);
-    }
+    IfOk-weaker c.over.result _ _ (λ m. over_month r _ _ c.len.result m (omega (arith, r.days.ok.0)) (λ d e. rw e refl) (λ k o h. search rules)) c.over.ensures

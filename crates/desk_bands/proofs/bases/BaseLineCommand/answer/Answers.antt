@@ -7,6 +7,5 @@ pub returns-in_ok-format-in-Ok : goal.returns-in_ok-format-in-Ok
 returns-in_ok-format-in-Ok g c =
     (refl, subst (λ t. BaseSaid c.args.self.now (text t)) (sym c.in_ok-format-in-Ok.ensures.ok) (based _ (rw c.as_slice.ensures.value at c.in-Ok.ensures)))
 
-pub returns-in_ok-refused_text-in-Err : goal.returns-in_ok-refused_text-in-Err
-returns-in_ok-refused_text-in-Err g c =
-    (refl, subst (λ t. BaseSaid c.args.self.now (text t)) (sym c.in_ok-refused_text-in-Err.ensures) (denied _ (rw c.as_slice.ensures.value at c.in-Err.ensures)))
+pub returns-in-Err : goal.returns-in-Err
+returns-in-Err g c = (refl, denied _ (rw c.as_slice.ensures.value at c.in-Err.ensures))

@@ -8,7 +8,5 @@ returns-in_ok-format-in-Ok g c =
     let h = c.in-Ok.ensures in
     (refl, subst (λ t. ToleranceSaid c.args.self.now (text t)) (sym (rw h.1 at c.in_ok-format-in-Ok.ensures.ok)) (given h.0 _ h.2))
 
-pub returns-in_ok-refused_text-in-Err : goal.returns-in_ok-refused_text-in-Err
-returns-in_ok-refused_text-in-Err g c =
-    let h = c.in-Err.ensures in
-    (refl, subst (λ t. ToleranceSaid c.args.self.now (text t)) (sym (rw h.1 at c.in_ok-refused_text-in-Err.ensures)) (denied h.0))
+pub returns-in-Err : goal.returns-in-Err
+returns-in-Err g c = let h = c.in-Err.ensures in (refl, rw h.1 (denied h.0))

@@ -9,6 +9,5 @@ returns-in_ok-format-in-Ok c =
     let r = This (record { value = Some c.in-Ok.bands }) in
     subst (λ t. FixedSet c.args.self.now c.args.hand.now r (text t)) (sym c.in_ok-format-in-Ok.ensures.ok) (FixedSet.set r (λ d. c.in-Ok.ensures))
 
-pub returns-in_ok-refused_text-in-Err : goal.returns-in_ok-refused_text-in-Err
-returns-in_ok-refused_text-in-Err c =
-    subst (λ t. FixedSet c.args.self.now c.args.hand.now c.args.hand.now (text t)) (sym c.in_ok-refused_text-in-Err.ensures) (FixedSet.denied _ c.in-Err.ensures)
+pub returns-in-Err : goal.returns-in-Err
+returns-in-Err c = FixedSet.denied _ c.in-Err.ensures

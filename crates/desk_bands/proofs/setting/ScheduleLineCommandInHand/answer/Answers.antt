@@ -8,7 +8,5 @@ pub returns-in_ok-format-in-Ok : goal.returns-in_ok-format-in-Ok
 returns-in_ok-format-in-Ok c =
     subst (λ t. ScheduleSet c.args.self.now c.args.hand.now (That c.in-Ok.rule) (text t)) (sym c.in_ok-format-in-Ok.ensures.ok) (ScheduleSet.set _ (rw c.as_slice.ensures.value at c.in-Ok.ensures))
 
-pub returns-in_ok-refused_text-in-Err-Refused : goal.returns-in_ok-refused_text-in-Err-Refused
-returns-in_ok-refused_text-in-Err-Refused c =
-    let unfit = rw c.as_slice.ensures.value at c.in-Err-Refused.ensures in
-    subst (λ t. ScheduleSet c.args.self.now c.args.hand.now c.args.hand.now (text t)) (sym c.in_ok-refused_text-in-Err-Refused.ensures) (ScheduleSet.denied _ unfit)
+pub returns-in-Refused : goal.returns-in-Refused
+returns-in-Refused c = ScheduleSet.denied _ (rw (c.in-Refused.is, c.as_slice.ensures.value) at c.in-Err.ensures)

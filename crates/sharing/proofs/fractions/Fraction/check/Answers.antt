@@ -12,13 +12,3 @@ returns-then-q-eq0 c vs few small e =
 pub returns-then-p-sum-gt9000000000000000000 : goal.returns-then-p-sum-gt9000000000000000000
 returns-then-p-sum-gt9000000000000000000 c vs few small e =
     wide few small c.if-p-gt20000000000.false (omega arith) c.if-q-gt1000000000000.false (omega (arith, ap (λ (n : ℕ). c.args.self.p * n) e))
-
-pub returns : goal.returns
-returns c vs few small e = record {
-  few = few;
-  small = small;
-  top = c.if-p-gt20000000000.false;
-  some = omega arith;
-  bottom = c.if-q-gt1000000000000.false;
-  product = omega (arith, ap (λ (n : ℕ). c.args.self.p * n) e);
-}
