@@ -35,7 +35,8 @@ pub fn answer_line(heap: Global, number: u64, line: &[u8]) -> Result<String, All
     let Ok(text) = std::str::from_utf8(line) else {
         return unread_text(heap, number, "a line of text");
     };
-    let words = split_words(heap, uncommented(text))?;
+    let command = uncommented(text);
+    let words = split_words(heap, command)?;
     match words.as_slice() {
         [] => Ok(String::new(heap)),
         words => reply_text(heap, number, answer(heap, words)?),

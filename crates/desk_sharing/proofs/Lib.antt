@@ -1,2 +1,3 @@
-mod Listing
+pub mod Listing
+pub mod Spelling
 mod Telling

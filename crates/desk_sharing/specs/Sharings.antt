@@ -1,5 +1,5 @@
 -- What the lines that share mean, and what is said to them.
-use Rattle.std.specs.Prelude.{ℕ, List, ◌++◌, ℤ, vec_items, codes}
+use Rattle.std.specs.Prelude.{◌≡◌, ℕ, List, ◌++◌, ℤ, vec_items, codes}
 use Rattle.std.specs.Fmt.{signed_decimal}
 use Rattle.kinds.specs.declared.refusals.Refusal.{Refusal}
 use Rattle.sharing.specs.Sharing.{Shared}
@@ -35,6 +35,10 @@ pub data Amounts (x : AmountLine) : Said → Type 0 where
 abbrev pub spelled : Keyword → List ℕ
 spelled Share = codes "share"
 spelled Amount = codes "amount"
+
+-- a word spells one keyword at most: a line is no command at all where the words after its keyword are none of that keyword
+abbrev pub OneKeyword : Type 0
+OneKeyword = (j k : Keyword) → spelled j ≡ spelled k → j ≡ k
 
 abbrev pub form_of : Keyword → List ℕ
 form_of Share = codes "share P Q V.."

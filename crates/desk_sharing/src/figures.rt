@@ -26,6 +26,7 @@ pub struct Shares<'a>(pub &'a [PlainClaim]);
 impl<'a> fmt::Display for Shares<'a> {
     ghost output = { λ x. Some (listed (map held_by x.0.now)) };
 
+    #[tactic(auto, using(crate::proofs::Listing::put_share))]
     fn fmt<W: fmt::Write>(&self, f: &mut fmt::Formatter<W>) -> fmt::Result {
         for claim in self.0 {
             write!(f, " {}", claim.share)?;

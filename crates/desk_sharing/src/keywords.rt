@@ -3,7 +3,7 @@ ghost use Rattle.std.specs.Option.{option_map};
 ghost use Rattle.std.specs.Prelude.{◌≡◌, IfOk};
 ghost use Rattle.lines.specs.Words.{texts};
 ghost use Rattle.commands.specs.Replies.{said, Answered};
-ghost use Rattle.desk_sharing.specs.Sharings.{spelled, form_of, Of};
+ghost use Rattle.desk_sharing.specs.Sharings.{spelled, OneKeyword, form_of, Of};
 
 use crate::sharings::{AmountLine, ShareLine};
 use commands::{Key, Reply, carry_out, first_key};
@@ -30,7 +30,7 @@ impl Key for Keyword {
 
 impl Keyword {
     /// The form of a line with this keyword.
-    pub fn form(self) -> &'static str
+    fn form(self) -> &'static str
         ensures { result.now ≡ form_of self }
     {
         match self {
@@ -52,8 +52,10 @@ impl Keyword {
 }
 
 /// What is said to a line of these words; none where its first word is no keyword of these.
+#[tactic(auto, using(crate::proofs::Spelling::one_keyword))]
 pub fn answer(heap: Global, words: &[&str]) -> Result<Option<Reply>, AllocError>
-    ensures { IfOk result (λ o. Answered spelled Of (texts words.now) tt tt (option_map said o)) }
+    ensures said { IfOk result (λ o. Answered spelled Of (texts words.now) tt tt (option_map said o)) }
+    ensures one_keyword { OneKeyword }
 {
     match first_key::<Keyword>(words) {
         Some((keyword, rest)) => Ok(Some(keyword.answer(heap, rest)?)),

@@ -9,7 +9,7 @@ use sharing::{Fraction, share, share_amount};
 use std::alloc::{AllocError, Global};
 
 /// `share P Q V..`: the fraction P / Q of each of the claims V.
-#[derive(Drop)]
+#[derive(PartialEq, Eq, Debug, Drop)]
 pub struct ShareLine {
     pub fraction: Fraction,
     pub claims: Vec<i64>,
@@ -40,7 +40,7 @@ impl Command<()> for ShareLine {
 }
 
 /// `amount A W..`: the amount A over the weights W.
-#[derive(Drop)]
+#[derive(PartialEq, Eq, Debug, Drop)]
 pub struct AmountLine {
     pub amount: i64,
     pub weights: Vec<i64>,

@@ -16,12 +16,12 @@ returns-in_default c = IfOk-weaker c.unread_text.result _ _ (λ s e. rw e (no_te
 pub returns-in-empty : goal.returns-in-empty
 returns-in-empty c =
     let text = c.in-Ok.ensures.cases in
-    let same = read c.as_slice.ensures.value c.in_ok-words.ensures c.uncommented.ensures text.0 in
+    let same = read c.as_slice.ensures.value c.in_ok-words.ensures c.uncommented-command.ensures text.0 in
     rw c.new.ensures.bytes (no_words text.1 (sym same ∙ ap texts (nil_from_length _ (omega arith))))
 
 pub returns : goal.returns
 returns c =
     let text = c.in-Ok.ensures.cases in
-    let same = read c.as_slice.ensures.value c.in_ok-words.ensures c.uncommented.ensures text.0 in
-    let said = rw same at c.in_ok-answer-in_default-as_slice.ensures in
+    let same = read c.as_slice.ensures.value c.in_ok-words.ensures c.uncommented-command.ensures text.0 in
+    let said = rw same at c.in_ok-answer-in_default-as_slice.ensures.said in
     IfOk-weaker c.reply_text.result _ _ (λ s e. rw e (answer text.1 (λ none. omega (arith, simp length-map at (ap length (same ∙ none)))) _ said)) c.reply_text.ensures
