@@ -4,7 +4,6 @@ ghost use Rattle.desk_sharing.specs.Sharings.{ShareWords, Shares, AmountWords, A
 use crate::figures::{Shares, figures_of};
 use commands::{Command, Reply, Row};
 use lines::Fault;
-use lines::fields::Field;
 use sharing::{Fraction, share, share_amount};
 use std::alloc::{AllocError, Global};
 
