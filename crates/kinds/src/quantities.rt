@@ -53,6 +53,7 @@ impl Kind for i64 {
     }
 }
 
+// The three kinds stay structs of their own, a rule of the project, so each says what it holds.
 impl Kind for Metered {
     ghost number = { λ m. m.0 };
 
@@ -101,8 +102,7 @@ impl Kind for Cents {
     }
 }
 
-// Sums, differences and minuses stay one by one: coherence allows no one impl for all kinds, and
-// the project has no macros of its own.
+// One by one: coherence allows no impl of `Add` for every kind, and none is written by a macro here.
 impl Add<Metered> for Metered {
     type Output = Metered;
 
