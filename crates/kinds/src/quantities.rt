@@ -18,7 +18,7 @@ pub struct Energy(pub i64);
 #[derive(Clone, Copy, PartialEq, Eq, PartialOrd, Ord, Debug)]
 pub struct Cents(pub i64);
 
-/// A kind of whole number: each number is held by one value of the kind.
+/// A kind of whole number, told by the number that it holds.
 pub trait Kind: Copy {
     /// The number that it holds.
     ghost number: { Self → ℤ };
