@@ -18,7 +18,7 @@ pub struct Energy(pub i64);
 #[derive(Clone, Copy, PartialEq, Eq, PartialOrd, Ord, Debug)]
 pub struct Cents(pub i64);
 
-/// A kind of whole number: each number is held by one value of the kind.
+/// A kind of whole number, told by the number that it holds.
 pub trait Kind: Copy {
     /// The number that it holds.
     ghost number: { Self → ℤ };
@@ -53,6 +53,7 @@ impl Kind for i64 {
     }
 }
 
+// The three kinds stay structs of their own, a rule of the project, so each says what it holds.
 impl Kind for Metered {
     ghost number = { λ m. m.0 };
 
@@ -101,8 +102,7 @@ impl Kind for Cents {
     }
 }
 
-// Sums, differences and minuses stay one by one: coherence allows no one impl for all kinds, and
-// the project has no macros of its own.
+// One by one: coherence allows no impl of `Add` for every kind, and none is written by a macro here.
 impl Add<Metered> for Metered {
     type Output = Metered;
 

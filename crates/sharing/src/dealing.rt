@@ -1,9 +1,9 @@
 //! Divides the values of a table into whole shares that add up.
-ghost use Rattle.std.specs.Prelude.{◌≡◌, ℕ, ◌*◌, ◌<◌, ◌≤◌, true, false, length, pos, if◌then◌else◌, nat_eq, nat_lt, unsigned_abs};
+ghost use Rattle.std.specs.Prelude.{◌≡◌, ℕ, ◌<◌, ◌≤◌, length, unsigned_abs};
 ghost use Rattle.sharing.specs.Sharing.{at, Shared};
 ghost use Rattle.sharing.specs.Limits.{Limits};
 ghost use Rattle.sharing.specs.Rows.{values, shares, rest_at};
-ghost use Rattle.sharing.specs.Steps.{sum_to, total, floor_of, rest_of, floors, rests, bit, rank_of, due_of};
+ghost use Rattle.sharing.specs.Steps.{sum_to, total, floors, rests, rank_of, due_of};
 
 use crate::fractions::Fraction;
 use crate::rows::Row;
