@@ -13,7 +13,7 @@ use rules::rules::Rule;
 use std::alloc::{AllocError, Global};
 
 /// `ask bands YYYY-MM-DD`: the bands of a date.
-#[derive(Drop)]
+#[derive(PartialEq, Eq, Debug, Drop)]
 pub struct AskLine {
     pub date: Date,
 }
@@ -40,7 +40,8 @@ impl Command<InHand> for AskLine {
             carry_limit,
         } = BandFigures::from(bands);
         Ok(Reply::Text(format!(in heap;
-            "bands {lower_allowed} {lower_cumulable} {upper_cumulable} {upper_allowed} {carry_limit}")?))
+            "bands {lower_allowed} {lower_cumulable} {upper_cumulable} {upper_allowed} {carry_limit}"
+        )?))
     }
 }
 

@@ -11,7 +11,7 @@ use terms::base::base;
 
 /// A perimeter by its word.
 // A struct of its own: neither `Perimeter` nor `Field` is of this crate.
-#[derive(Clone, Copy)]
+#[derive(Clone, Copy, PartialEq, Eq, Debug)]
 pub struct PerimeterName(pub Perimeter);
 
 impl Field for PerimeterName {
@@ -28,7 +28,7 @@ impl Field for PerimeterName {
 }
 
 /// `base YYYY-MM CAPACITY MONTHLY ALLOCATION..`: the base of a month.
-#[derive(Drop)]
+#[derive(PartialEq, Eq, Debug, Drop)]
 pub struct BaseLine {
     pub month: Month,
     pub capacity: u32,
@@ -42,8 +42,9 @@ impl<S> Command<S> for BaseLine {
     ghost does = { λ x s t y. (t ≡ s) × BaseSaid x y };
 
     fn read(heap: Global, words: &[&str]) -> Result<BaseLine, Fault> {
-        let (month, (capacity, (monthly, allocations))) =
-            <(Month, (u32, (u32, Vec<u32>)))>::read(heap, words)?;
+        let (month, (capacity, (monthly, allocations))) = <(Month, (u32, (u32, Vec<u32>)))>::read(
+            heap, words,
+        )?;
         Ok(BaseLine {
             month,
             capacity,
@@ -66,7 +67,7 @@ impl<S> Command<S> for BaseLine {
 }
 
 /// `tolerance PERIMETER BASE`: the standard tolerance on a base.
-#[derive(Drop)]
+#[derive(PartialEq, Eq, Debug, Drop)]
 pub struct ToleranceLine {
     pub perimeter: PerimeterName,
     pub base: u32,

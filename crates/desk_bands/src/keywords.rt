@@ -56,12 +56,7 @@ impl Key for BandsForm {
 
 impl BandsForm {
     /// What is said to the words after `bands` and this form.
-    fn answer(
-        self,
-        heap: Global,
-        hand: &mut InHand,
-        words: &[&str],
-    ) -> Result<Reply, AllocError>
+    fn answer(self, heap: Global, hand: &mut InHand, words: &[&str]) -> Result<Reply, AllocError>
         ensures { IfOk result (λ x. OfForm self (texts words.now) hand.old hand.new (said x)) }
     {
         match self {
@@ -92,12 +87,7 @@ fn answer_bands(heap: Global, hand: &mut InHand, words: &[&str]) -> Result<Reply
 
 impl Keyword {
     /// What is said to the words after this keyword.
-    fn answer(
-        self,
-        heap: Global,
-        hand: &mut InHand,
-        words: &[&str],
-    ) -> Result<Reply, AllocError>
+    fn answer(self, heap: Global, hand: &mut InHand, words: &[&str]) -> Result<Reply, AllocError>
         ensures { IfOk result (λ x. Of self (texts words.now) hand.old hand.new (said x)) }
     {
         match self {

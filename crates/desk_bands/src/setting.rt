@@ -19,7 +19,8 @@ use terms::schedule::{Terms, schedule};
 pub type InHand = Either<Fixed<Bands>, Monthly<Bands>>;
 
 /// `bands none`: a rule without bands.
-#[derive(Drop)]
+// Apart from `ZeroLine`: both have no words, and each sets another rule with another promise.
+#[derive(PartialEq, Eq, Debug, Drop)]
 pub struct NoneLine;
 
 impl Command<InHand> for NoneLine {
@@ -39,7 +40,7 @@ impl Command<InHand> for NoneLine {
 }
 
 /// `bands zero`: the rule of a pool without capacity.
-#[derive(Drop)]
+#[derive(PartialEq, Eq, Debug, Drop)]
 pub struct ZeroLine;
 
 impl Command<InHand> for ZeroLine {
@@ -59,7 +60,7 @@ impl Command<InHand> for ZeroLine {
 }
 
 /// `bands fixed LA LC UC UA LIMIT`: the same bands on every date.
-#[derive(Drop)]
+#[derive(PartialEq, Eq, Debug, Drop)]
 pub struct FixedLine {
     pub figures: BandFigures,
 }
@@ -70,8 +71,10 @@ impl Command<InHand> for FixedLine {
     ghost does = { FixedSet };
 
     fn read(heap: Global, words: &[&str]) -> Result<FixedLine, Fault> {
-        let (lower_allowed, (lower_cumulable, (upper_cumulable, (upper_allowed, (carry_limit, ()))))) =
-            <(u32, (u32, (u32, (u32, (u32, ())))))>::read(heap, words)?;
+        let (
+            lower_allowed,
+            (lower_cumulable, (upper_cumulable, (upper_allowed, (carry_limit, ())))),
+        ) = <(u32, (u32, (u32, (u32, (u32, ())))))>::read(heap, words)?;
         Ok(FixedLine {
             figures: BandFigures {
                 lower_allowed,
@@ -95,7 +98,7 @@ impl Command<InHand> for FixedLine {
 }
 
 /// `bands schedule YYYY-MM PERIMETER BASE TOE THRESHOLD LIMIT TALON FORECAST..`: a month's schedule.
-#[derive(Drop)]
+#[derive(PartialEq, Eq, Debug, Drop)]
 pub struct ScheduleLine {
     pub terms: Terms,
     pub forecasts: Vec<Option<i16>>,

@@ -39,6 +39,7 @@ impl Command<()> for ShareLine {
 }
 
 /// `amount A W..`: the amount A over the weights W.
+// Apart from `ShareLine`: the two share an outline, and differ in fields, call and rule.
 #[derive(PartialEq, Eq, Debug, Drop)]
 pub struct AmountLine {
     pub amount: i64,

@@ -31,6 +31,7 @@ impl Month {
 
 impl Date {
     /// The month that the day is in.
+    // An accessor and not a `From`: `date.month()` reads plainer.
     pub fn month(self) -> Month
         ensures { (result.year ≡ self.year) × (result.month ≡ self.month) }
     {

@@ -76,6 +76,7 @@ pub enum Refusal {
 
 impl Refusal {
     /// The number under which the ground is known.
+    // A number and not an enum: the outside knows refusals by these numbers, which never change.
     pub fn number(self) -> u8
         ensures { result ≡ number_of self }
     {

@@ -14,6 +14,7 @@ pub struct Price {
 /// The largest price.
 pub const MOST: u32 = 400_000;
 
+// Apart from that of `DayPrice`: two kinds of number, each with its own range, width and unit.
 impl TryFrom<u32> for Price {
     type Error = Refusal;
 

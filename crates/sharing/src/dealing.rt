@@ -9,6 +9,8 @@ use crate::fractions::Fraction;
 use crate::rows::Row;
 use std::cmp::Reverse;
 
+// That the values stay stands in each contract: what a step leaves alone is said where the step is.
+
 /// Starts each share rounded downward, with its remainder beside it, and answers the sums of both.
 fn divide(rows: &mut [Row], fraction: Fraction) -> (i64, u64)
     requires { Limits fraction.p fraction.q (values rows.old) }

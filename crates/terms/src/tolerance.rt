@@ -54,6 +54,7 @@ impl Perimeter {
 
     /// The standard tolerance in thousandths of a kWh, and the number of the bracket in which the base
     /// ends; refused where the base is out of its range.
+    // A pair, with a number for the bracket: a rule of the project.
     pub fn tolerance(self, base: u32) -> Result<(u64, u8), Refusal>
         ensures { MatchResult result
             (λ t. (base ≤ 100000000) × (t.0 ≡ thousandths self base) × Ends base t.1)
