@@ -4,7 +4,6 @@ ghost use Rattle.lines.specs.Words.{texts};
 ghost use Rattle.commands.specs.Keys.{Keyed, Unkeyed};
 
 /// A choice that a word makes.
-// Not `FromStr`: its contract does not say which words make no choice.
 // Not `FromStr` or `TryFrom`: those would need, beside an error type, a law that says which words make no choice.
 pub trait Key: Sized {
     /// The word for each choice.
