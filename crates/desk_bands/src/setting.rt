@@ -141,11 +141,8 @@ impl Command<InHand> for ScheduleLine {
                 *hand = Either::That(rule);
                 Ok(Reply::Text(format!(in heap; "ok")?))
             }
-            // A match of its own: a nested pattern hides the refusal from the contract.
-            Err(error) => match error {
-                RuleError::Memory => Err(AllocError),
-                RuleError::Refused(refusal) => Ok(Reply::Refused(refusal)),
-            },
+            Err(RuleError::Memory) => Err(AllocError),
+            Err(RuleError::Refused(refusal)) => Ok(Reply::Refused(refusal)),
         }
     }
 }
