@@ -31,6 +31,12 @@ pub same_date : (d e : Date) → d.year ≡ e.year → d.month ≡ e.month → d
 same_date d e p q r =
     let h : date d.year d.month d.day ≡ date e.year e.month e.day = cc in h
 
+pub before_irreflexive : (d : Date) → Before d d → ⊥
+before_irreflexive d h = omega arith
+
+pub before_transitive : (d e f : Date) → Before d e → Before e f → Before d f
+before_transitive d e f p q = grind arith
+
 pub before_total : (d e : Date) → Before d e ⊎ ((d ≡ e) ⊎ Before e d)
 before_total d e = grind (arith, same_date d e)
 

@@ -18,13 +18,11 @@ impl Month {
     pub fn days(self) -> u8
         ensures { result ≡ days_of self.year self.month }
     {
-        if self.month == 0 || self.month > 12 {
-            return 0;
-        }
         match self.month {
             2 => if is_leap(self.year) { 29 } else { 28 },
             4 | 6 | 9 | 11 => 30,
-            _ => 31,
+            1..=12 => 31,
+            _ => 0,
         }
     }
 }

@@ -34,8 +34,7 @@ impl fmt::Display for Date {
     ghost output = { λ d. Some (dated d) };
 
     fn fmt<W: fmt::Write>(&self, f: &mut fmt::Formatter<W>) -> fmt::Result {
-        let month = self.month();
-        let day = self.day;
-        write!(f, "{month}-{day:02}")
+        let Date { year, month, day } = *self;
+        write!(f, "{year:04}-{month:02}-{day:02}")
     }
 }

@@ -19,6 +19,7 @@ pub struct Energy(pub i64);
 pub struct Cents(pub i64);
 
 /// A kind of whole number, told by the number that it holds.
+// Not `From` both ways: that states a relation, and a claim needs the value that a number is made into.
 pub trait Kind: Copy {
     /// The number that it holds.
     ghost number: { Self → ℤ };
@@ -53,7 +54,7 @@ impl Kind for i64 {
     }
 }
 
-// The three kinds stay structs of their own, a rule of the project, so each says what it holds.
+// The three kinds stay structs of their own, the form that was asked for, so each says what it holds.
 impl Kind for Metered {
     ghost number = { λ m. m.0 };
 
@@ -102,7 +103,8 @@ impl Kind for Cents {
     }
 }
 
-// One by one: coherence allows no impl of `Add` for every kind, and none is written by a macro here.
+// One by one: each kind is a struct of its own with one field, the form that was asked for
+// (docs/DECISIONS.md), and no impl of a foreign trait covers three structs.
 impl Add<Metered> for Metered {
     type Output = Metered;
 

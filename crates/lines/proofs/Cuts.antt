@@ -1,6 +1,5 @@
 -- A text that is cut at a byte: its words, and what stands before that byte.
-use Rattle.std.proofs.Common.{◌≡◌, ℕ, ◌+◌, ◌<◌, ◌≤◌, Bool, true, false, cond, eqb, List, [], ◌∷◌, ◌++◌, length, get_or, take, drop, is_ok, IfOk, Some, None, Ok, Err, Option, Result, sym, refl, ap, ◌∙◌, ⊎_elim, append_assoc, append-nil, arith, take-append-drop, Bor, eq-eqb, ne_eqb, MatchOption}
-use mathlib.Core.List.{map-append}
+use Rattle.std.proofs.Common.{◌≡◌, ℕ, ◌+◌, ◌<◌, ◌≤◌, Bool, true, false, eqb, List, [], ◌∷◌, ◌++◌, length, get_or, take, drop, Some, None, Option, sym, refl, ap, ◌∙◌, ⊎_elim, append_assoc, append-nil, arith, take-append-drop, Bor, eq-eqb, ne_eqb, MatchOption}
 use borrow.Author.Tests.{clash}
 use Rattle.std.specs.Str.Pattern.{FindsBy}
 use Rattle.std.specs.Str.{NoCharPasses}
@@ -9,7 +8,7 @@ use Rattle.std.proofs.ByRecursion.{All-from_get_or}
 use Rattle.std.proofs.lemmas.Str.Pattern.{drop_at_char}
 use Rattle.std.proofs.lemmas.Str.{len_utf8_bounds, NoCharPasses-byte}
 use Rattle.std.proofs.str.Laws.{order}
-use Rattle.lines.specs.Words.{blank, before, kept, words_after, words, texts}
+use Rattle.lines.specs.Words.{blank, before, kept, words_after, words}
 
 -- no byte of bs passes t
 abbrev pub Free : (ℕ → Bool) → List ℕ → Type 0

@@ -7,13 +7,12 @@ use crate::fields::{Fault, Field};
 use kinds::{Date, Month};
 
 /// The number that a digit writes.
-// By hand: `parse` takes a sign too.
 fn digit(byte: u8) -> Result<u8, Fault>
     ensures { Reads (Digit byte) result }
 {
-    match byte {
-        b'0'..=b'9' => Ok(byte - b'0'),
-        _ => Err(Fault::Unreadable),
+    match char::from(byte).to_digit(10) {
+        Some(n) => Ok(n as u8),
+        None => Err(Fault::Unreadable),
     }
 }
 
@@ -64,7 +63,7 @@ impl Field for Month {
 
     fn read(word: &str) -> Result<Month, Fault> {
         let month = month_of(word.as_bytes())?;
-        if month.month < 1 || month.month > 12 {
+        if !(1..=12).contains(&month.month) {
             return Err(Fault::Unreadable);
         }
         Ok(month)

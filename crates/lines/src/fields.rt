@@ -10,7 +10,7 @@ use std::alloc::{AllocError, AllocFailed, Global};
 use std::num::ParseIntError;
 
 /// Why nothing was read: memory failed, or no word writes such a value.
-// An enum of its own: a shared one for every ground could have no `From` of a foreign error here.
+// An enum of its own: one shared with the rules would make `Fault::Unreadable` a second type inside it.
 #[derive(Clone, Copy, PartialEq, Eq, Debug)]
 pub enum Fault {
     Memory,

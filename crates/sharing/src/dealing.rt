@@ -9,7 +9,8 @@ use crate::fractions::Fraction;
 use crate::rows::Row;
 use std::cmp::Reverse;
 
-// That the values stay stands in each contract: what a step leaves alone is said where the step is.
+// That the values stay, and that the limits hold, stands in each contract: both tie a table that is lent
+// to a fraction, so no type of its own could hold them while the table is written.
 
 /// Starts each share rounded downward, with its remainder beside it, and answers the sums of both.
 fn divide(rows: &mut [Row], fraction: Fraction) -> (i64, u64)

@@ -22,7 +22,8 @@ pub fn share<C: Claim>(claims: &mut [C], fraction: Fraction) -> Result<i64, Refu
     ensures exact { ExactLimits }
     ensures one_way { OneWay }
 {
-    // On the stack, at its largest: the project's rule is fixed memory and no heap.
+    // On the stack, at its largest: fixed memory and no heap. An `ArrayVec` would only keep beside it
+    // the length that the claims have.
     let mut table = [Row::default(); MOST_CLAIMS];
     let (rows, sum) = read(claims, &mut table)?;
     fraction.check(sum)?;
@@ -41,6 +42,7 @@ pub fn share_amount<C: Claim>(claims: &mut [C], amount: i64) -> Result<(), Refus
     ensures fair { Fairly }
     ensures one_over { OneOver }
 {
+    // On the stack, as in `share`.
     let mut table = [Row::default(); MOST_CLAIMS];
     let (rows, sum) = read(claims, &mut table)?;
     if sum == 0 && amount != 0 {

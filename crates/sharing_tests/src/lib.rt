@@ -3,24 +3,26 @@
 
 #[cfg(test)]
 mod tests {
-    use kinds::{Cents, Energy, Metered, Refusal};
-    use sharing::{CarriedClaim, EnergyClaim, Fraction, MeteredClaim, share, share_amount};
+    use kinds::{Energy, Kind, Metered, Refusal};
+    use sharing::{CarriedClaim, EnergyClaim, Fraction, MeteredClaim, Stake, share, share_amount};
+
+    // A claim of this number, which holds 7.
+    fn claim<V: Kind, S: Kind>(number: i64) -> Stake<V, S> {
+        Stake {
+            value: V::of(number),
+            share: S::of(7),
+        }
+    }
 
     fn energy(kwh: i64) -> EnergyClaim {
-        EnergyClaim {
-            value: Energy(kwh),
-            share: Energy(7),
-        }
+        claim(kwh)
     }
 
     fn carried(kwh: i64) -> CarriedClaim {
-        CarriedClaim {
-            value: Energy(kwh),
-            share: Cents(7),
-        }
+        claim(kwh)
     }
 
-    // The total, or the number of the refusal.
+    // The total, or the number of the refusal: by it the outside knows a refusal.
     fn told<T>(answer: Result<T, Refusal>) -> Result<T, u8> {
         answer.map_err(|refusal| refusal.number())
     }
