@@ -4,7 +4,8 @@ ghost use Rattle.std.specs.Prelude.{◌≤◌};
 /// The bands of a day, in kWh at 25°: what is allowed and what is cumulable below and above zero, and
 /// the carry limit. Each is at most 100,000,000, and a cumulable figure is never above the allowed
 /// figure of its side.
-// The bound stands three times here and in no other type; a type of one figure would say it of the cumulable ones too.
+// No type of one figure for the bound: no call takes a single figure, as `Price::amount` takes a price,
+// so that such a type would only wrap five fields.
 #[derive(Clone, Copy, PartialEq, Eq, Debug)]
 pub struct Bands {
     lower_allowed: u32,

@@ -19,5 +19,5 @@ pub use monthly::Monthly;
 pub use price::Price;
 pub use prices::Prices;
 pub use rules::{Either, Fixed, Rule};
-pub use temperature::TemperatureShare;
+pub use temperature::{Temperature, TemperatureShare};
 pub use tolerances::Tolerances;

@@ -14,7 +14,7 @@ pub struct Price {
 /// The largest price.
 pub const MOST: u32 = 400_000;
 
-// Apart from that of `DayPrice`: two kinds of number, each with its own range, width and unit.
+// Apart from that of `DayPrice`: mills and cents per MWh, two units that must not be taken for one another.
 impl TryFrom<u32> for Price {
     type Error = Refusal;
 

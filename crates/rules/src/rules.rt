@@ -42,6 +42,7 @@ impl<T: Copy> Rule<T> for Monthly<T> {
 }
 
 /// One of two kinds of rule, so that one list of calls can mix them.
+// Not that of the crate `either`: a dependency for two names, and the enum belongs to the rules.
 #[derive(Drop, PartialEq, Eq, Debug)]
 pub enum Either<R, S> {
     This(R),

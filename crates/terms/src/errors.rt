@@ -6,7 +6,8 @@ use kinds::Refusal;
 use std::alloc::{AllocError, AllocFailed};
 
 /// Why no rule was made: memory failed, or the call was refused.
-// Its own enum, though `lines` has one of this shape: a shared one could have no `From` of a refusal here.
+// Apart from `lines::Fault`: an enum over its ground for both would make `RuleError::Refused(r)` and
+// `Fault::Unreadable` into `Failure::Ground(..)` with a second type each, which is no plainer.
 #[derive(Clone, Copy, PartialEq, Eq, Debug)]
 pub enum RuleError {
     Memory,

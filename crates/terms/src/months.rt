@@ -9,7 +9,7 @@ use kinds::{Month, Refusal};
 pub fn is_ruled(month: Month) -> bool
     ensures { MatchBool result (Ruled month) (Ruled month → ⊥) }
 {
-    2000 <= month.year && month.year <= 2099 && 1 <= month.month && month.month <= 12
+    (2000..=2099).contains(&month.year) && (1..=12).contains(&month.month)
 }
 
 /// How many days a month has; refused where the month is outside January 2000 to December 2099.

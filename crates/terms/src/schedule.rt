@@ -10,7 +10,7 @@ use crate::tolerance::{MOST_BASE, Perimeter};
 use kinds::{Month, Refusal};
 use rules::bands::Bands;
 use rules::monthly::Monthly;
-use rules::temperature::TemperatureShare;
+use rules::temperature::{Temperature, TemperatureShare};
 use rules::tolerances::Tolerances;
 use std::alloc::Global;
 
@@ -80,9 +80,13 @@ impl Terms {
         requires plausible { PlausibleOrNone forecast }
         ensures { DayOf self forecast result }
     {
-        let forecast = forecast?;
+        let forecast = Temperature { tenths: forecast? };
+        let threshold = Temperature {
+            tenths: self.threshold,
+        };
+        let limit = Temperature { tenths: self.limit };
         let optional = u64::from(self.base) * u64::from(self.optional);
-        let share = TemperatureShare::new(forecast, self.threshold, self.limit);
+        let share = TemperatureShare::new(forecast, threshold, limit);
         Some(Bands::exact(Tolerances { standard, optional }, share, self.talon))
     }
 }

@@ -42,6 +42,7 @@ fn bracket(base: u32) -> u8
 
 impl Perimeter {
     /// The rate of each bracket, in thousandths.
+    // Apart from the brackets: the rates differ by perimeter, and the brackets do not.
     fn rates(self) -> [u16; 5]
         ensures { result ≡ rates_of self }
     {
@@ -54,7 +55,7 @@ impl Perimeter {
 
     /// The standard tolerance in thousandths of a kWh, and the number of the bracket in which the base
     /// ends; refused where the base is out of its range.
-    // A pair, with a number for the bracket: a rule of the project.
+    // A pair: the form that was asked for (docs/DECISIONS.md).
     pub fn tolerance(self, base: u32) -> Result<(u64, u8), Refusal>
         ensures { MatchResult result
             (λ t. (base ≤ 100000000) × (t.0 ≡ thousandths self base) × Ends base t.1)

@@ -6,6 +6,7 @@ use crate::bands::Bands;
 use kinds::Refusal;
 
 /// Five figures, in the order of their names; by default five zeros.
+// Beside `Bands`: the figures as they come in, and as definitions speak of them, before they are tested.
 #[derive(Clone, Copy, PartialEq, Eq, Default, Debug)]
 pub struct BandFigures {
     pub lower_allowed: u32,
@@ -20,7 +21,8 @@ pub const MOST: u32 = 100_000_000;
 
 impl BandFigures {
     /// Whether each figure is within its range.
-    // Five tests in a row need no proof; a chain over an array asks for one, that its places are the five fields.
+    // Five tests in a row: no call takes a single figure, so that a type of one figure with its own test would
+    // only wrap five fields, and a chain over an array asks for a proof that its places are the five fields.
     fn are_ranged(self) -> bool
         ensures { MatchBool result (Ranged self) (Ranged self → ⊥) }
     {

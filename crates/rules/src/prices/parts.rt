@@ -7,6 +7,7 @@ use crate::prices::Prices;
 use kinds::Refusal;
 
 /// Four prices in mills per MWh.
+// Beside `Prices`: the prices as they come in, and as definitions speak of them, before they are tested.
 #[derive(Clone, Copy, PartialEq, Eq, Debug)]
 pub struct PriceFigures {
     pub p1: u32,
