@@ -14,6 +14,7 @@ pub enum Perimeter {
 }
 
 /// The largest base, in kWh a day.
+// Tested where a base comes in, and no type of its own: the public calls take any number.
 pub const MOST_BASE: u32 = 100_000_000;
 
 /// The brackets, from a lower to an upper edge in kWh a day.
