@@ -54,8 +54,7 @@ impl Key for BandsForm {
     }
 }
 
-// The matches below switch on which command to run: each word has a line of a type of its own, which a table of `dyn` commands would lose.
-
+// Here and below a match says which command to run: each word has a line of a type of its own, which a table of `dyn` commands would lose.
 impl Topic<InHand> for BandsForm {
     ghost says = { OfForm };
 
@@ -108,4 +107,23 @@ pub fn answer(heap: Global, hand: &mut InHand, words: &[&str]) -> Result<Option<
     ensures { IfOk result (λ o. Answered spelled Of (texts words.now) hand.old hand.new (option_map said o)) }
 {
     answer_by::<Keyword, InHand>(heap, hand, words)
+}
+
+#[cfg(test)]
+mod tests {
+    use super::{InHand, answer};
+    use commands::Reply;
+    use rules::rules::{Either, Fixed};
+
+    #[test]
+    fn lines_are_answered(rt: HostRuntime) {
+        let heap = rt.alloc();
+        let mut hand: InHand = Either::This(Fixed { value: None });
+        let zero = answer(heap, &mut hand, &["bands", "zero"]).expect(&rt, "an answer");
+        assert!(rt; matches!(zero, Some(Reply::Text(_))));
+        let lacking = answer(heap, &mut hand, &["bands"]).expect(&rt, "an answer");
+        assert!(rt; matches!(lacking, Some(Reply::Unreadable(_))));
+        let other = answer(heap, &mut hand, &["share"]).expect(&rt, "an answer");
+        assert!(rt; other.is_none());
+    }
 }

@@ -43,7 +43,7 @@ impl Keyword {
 impl Topic<()> for Keyword {
     ghost says = { Of };
 
-    // A match on which command to run: each keyword has a line of a type of its own, which a table of `dyn` commands would lose.
+    // A match says which command to run: each keyword has a line of a type of its own, which a table of `dyn` commands would lose.
     fn answer(self, heap: Global, state: &mut (), words: &[&str]) -> Result<Reply, AllocError> {
         let form = self.form();
         match self {
