@@ -5,6 +5,7 @@ ghost use Rattle.commands.specs.Keys.{Keyed, Unkeyed};
 
 /// A choice that a word makes.
 // Not `FromStr` or `TryFrom`: those would need, beside an error type, a law that says which words make no choice.
+// Each enum has an impl of its own, in which only its words differ: a derive or macro of this repository may write none.
 pub trait Key: Sized {
     /// The word for each choice.
     ghost spelled: { Self → List ℕ };

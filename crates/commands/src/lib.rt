@@ -5,8 +5,10 @@ pub mod keys;
 pub mod refusals;
 pub mod replies;
 pub mod rows;
+pub mod topics;
 
 pub use keys::{Key, first_key};
 pub use refusals::refused_text;
 pub use replies::{Command, Reply, carry_out};
 pub use rows::Row;
+pub use topics::{Topic, answer_by, answer_chosen};

@@ -8,6 +8,7 @@ use lines::{Fault, Field, each, first};
 use std::alloc::Global;
 
 /// Values that a row of words writes, to its end.
+// The heap goes with the words: each call that allocates takes its allocator.
 pub trait Row: Sized {
     ghost says: { List (List ℕ) → Self → Type 0 };
 

@@ -2,6 +2,7 @@
 ghost use Rattle.std.specs.Option.{option_map};
 ghost use Rattle.std.specs.Prelude.{◌≡◌, IfOk, string_bytes};
 ghost use Rattle.commands.specs.Replies.{said};
+ghost use Rattle.desk_sharing.specs.Sharings.{OneKeyword};
 ghost use Rattle.desk.specs.Replies.{unreadable, printed, Responds};
 
 use commands::{Reply, refused_text};
@@ -29,8 +30,10 @@ fn reply_text(heap: Global, number: u64, reply: Option<Reply>) -> Result<String,
 }
 
 /// The text that answers the line of this number, and the empty text where the line asks for nothing.
+/// A word is one keyword at most: no command at all is meant by a line that cannot be read.
 pub fn answer_line(heap: Global, number: u64, line: &[u8]) -> Result<String, AllocError>
-    ensures { IfOk result (λ s. Responds number line.now (string_bytes s)) }
+    ensures said { IfOk result (λ s. Responds number line.now (string_bytes s)) }
+    ensures one_keyword { OneKeyword }
 {
     let Ok(text) = std::str::from_utf8(line) else {
         return unread_text(heap, number, "a line of text");

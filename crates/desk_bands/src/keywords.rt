@@ -2,12 +2,12 @@
 ghost use Rattle.std.specs.Option.{option_map};
 ghost use Rattle.std.specs.Prelude.{IfOk};
 ghost use Rattle.lines.specs.Words.{texts};
-ghost use Rattle.commands.specs.Replies.{said, Answered, Chosen};
-ghost use Rattle.desk_bands.specs.Keywords.{spelled, spelled_form, Of, OfForm, bands_form};
+ghost use Rattle.commands.specs.Replies.{said, Answered};
+ghost use Rattle.desk_bands.specs.Keywords.{spelled, spelled_form, Of, OfForm};
 
 use crate::bases::{BaseLine, ToleranceLine};
 use crate::setting::{FixedLine, InHand, NoneLine, ScheduleLine, ZeroLine};
-use commands::{Key, Reply, carry_out, first_key};
+use commands::{Key, Reply, Topic, answer_by, answer_chosen, carry_out};
 use std::alloc::{AllocError, Global};
 
 /// The first word of a line on bands.
@@ -54,11 +54,11 @@ impl Key for BandsForm {
     }
 }
 
-impl BandsForm {
-    /// What is said to the words after `bands` and this form.
-    fn answer(self, heap: Global, hand: &mut InHand, words: &[&str]) -> Result<Reply, AllocError>
-        ensures { IfOk result (λ x. OfForm self (texts words.now) hand.old hand.new (said x)) }
-    {
+// Here and below a match says which command to run: each word has a line of a type of its own, which a table of `dyn` commands would lose.
+impl Topic<InHand> for BandsForm {
+    ghost says = { OfForm };
+
+    fn answer(self, heap: Global, hand: &mut InHand, words: &[&str]) -> Result<Reply, AllocError> {
         match self {
             BandsForm::None => carry_out::<InHand, NoneLine>(heap, hand, words, "bands none"),
             BandsForm::Zero => carry_out::<InHand, ZeroLine>(heap, hand, words, "bands zero"),
@@ -75,21 +75,10 @@ impl BandsForm {
     }
 }
 
-/// What is said to the words after `bands`.
-fn answer_bands(heap: Global, hand: &mut InHand, words: &[&str]) -> Result<Reply, AllocError>
-    ensures { IfOk result (λ x. Chosen spelled_form OfForm bands_form (texts words.now) hand.old hand.new (said x)) }
-{
-    match first_key::<BandsForm>(words) {
-        Some((form, rest)) => form.answer(heap, hand, rest),
-        None => Ok(Reply::Unreadable("none, zero, fixed or schedule after bands")),
-    }
-}
+impl Topic<InHand> for Keyword {
+    ghost says = { Of };
 
-impl Keyword {
-    /// What is said to the words after this keyword.
-    fn answer(self, heap: Global, hand: &mut InHand, words: &[&str]) -> Result<Reply, AllocError>
-        ensures { IfOk result (λ x. Of self (texts words.now) hand.old hand.new (said x)) }
-    {
+    fn answer(self, heap: Global, hand: &mut InHand, words: &[&str]) -> Result<Reply, AllocError> {
         match self {
             Keyword::Base => carry_out::<InHand, BaseLine>(
                 heap,
@@ -103,7 +92,12 @@ impl Keyword {
                 words,
                 "tolerance north-b|north-h|south BASE",
             ),
-            Keyword::Bands => answer_bands(heap, hand, words),
+            Keyword::Bands => answer_chosen::<BandsForm, InHand>(
+                heap,
+                hand,
+                words,
+                "none, zero, fixed or schedule after bands",
+            ),
         }
     }
 }
@@ -112,8 +106,24 @@ impl Keyword {
 pub fn answer(heap: Global, hand: &mut InHand, words: &[&str]) -> Result<Option<Reply>, AllocError>
     ensures { IfOk result (λ o. Answered spelled Of (texts words.now) hand.old hand.new (option_map said o)) }
 {
-    match first_key::<Keyword>(words) {
-        Some((keyword, rest)) => Ok(Some(keyword.answer(heap, hand, rest)?)),
-        None => Ok(None),
+    answer_by::<Keyword, InHand>(heap, hand, words)
+}
+
+#[cfg(test)]
+mod tests {
+    use super::{InHand, answer};
+    use commands::Reply;
+    use rules::rules::{Either, Fixed};
+
+    #[test]
+    fn lines_are_answered(rt: HostRuntime) {
+        let heap = rt.alloc();
+        let mut hand: InHand = Either::This(Fixed { value: None });
+        let zero = answer(heap, &mut hand, &["bands", "zero"]).expect(&rt, "an answer");
+        assert!(rt; matches!(zero, Some(Reply::Text(_))));
+        let lacking = answer(heap, &mut hand, &["bands"]).expect(&rt, "an answer");
+        assert!(rt; matches!(lacking, Some(Reply::Unreadable(_))));
+        let other = answer(heap, &mut hand, &["share"]).expect(&rt, "an answer");
+        assert!(rt; other.is_none());
     }
 }

@@ -6,7 +6,7 @@ ghost use Rattle.commands.specs.Replies.{said, Answered};
 ghost use Rattle.desk_sharing.specs.Sharings.{spelled, OneKeyword, form_of, Of};
 
 use crate::sharings::{AmountLine, ShareLine};
-use commands::{Key, Reply, carry_out, first_key};
+use commands::{Key, Reply, Topic, answer_by, carry_out};
 use std::alloc::{AllocError, Global};
 
 /// The first word of a line that shares.
@@ -38,27 +38,25 @@ impl Keyword {
             Keyword::Amount => "amount A W..",
         }
     }
+}
 
-    /// What is said to the words after this keyword.
-    fn answer(self, heap: Global, words: &[&str]) -> Result<Reply, AllocError>
-        ensures { IfOk result (λ x. Of self (texts words.now) tt tt (said x)) }
-    {
+impl Topic<()> for Keyword {
+    ghost says = { Of };
+
+    // A match says which command to run: each keyword has a line of a type of its own, which a table of `dyn` commands would lose.
+    fn answer(self, heap: Global, state: &mut (), words: &[&str]) -> Result<Reply, AllocError> {
         let form = self.form();
         match self {
-            Keyword::Share => carry_out::<(), ShareLine>(heap, &mut (), words, form),
-            Keyword::Amount => carry_out::<(), AmountLine>(heap, &mut (), words, form),
+            Keyword::Share => carry_out::<(), ShareLine>(heap, state, words, form),
+            Keyword::Amount => carry_out::<(), AmountLine>(heap, state, words, form),
         }
     }
 }
 
 /// What is said to a line of these words; none where its first word is no keyword of these.
-#[tactic(auto, using(crate::proofs::Spelling::one_keyword))]
 pub fn answer(heap: Global, words: &[&str]) -> Result<Option<Reply>, AllocError>
     ensures said { IfOk result (λ o. Answered spelled Of (texts words.now) tt tt (option_map said o)) }
     ensures one_keyword { OneKeyword }
 {
-    match first_key::<Keyword>(words) {
-        Some((keyword, rest)) => Ok(Some(keyword.answer(heap, rest)?)),
-        None => Ok(None),
-    }
+    answer_by::<Keyword, ()>(heap, &mut (), words)
 }

@@ -10,17 +10,17 @@ use Rattle.desk.proofs.replies.answer_line.Goals as goal
 read : {ws vs : List (Bor (List ℕ))} {cut text line : List ℕ} → ws ≡ vs → texts vs ≡ words cut → cut ≡ before 35 text → text ≡ line → texts ws ≡ words_of line
 read e f g h = ap texts e ∙ f ∙ ap words (g ∙ ap (before 35) h)
 
-pub returns-in_default : goal.returns-in_default
-returns-in_default c = IfOk-weaker c.unread_text.result _ _ (λ s e. rw e (no_text c.in_default.ensures.cases.0)) c.unread_text.ensures
+pub returns-in_default-clause-said : goal.returns-in_default-clause-said
+returns-in_default-clause-said c = IfOk-weaker c.unread_text.result _ _ (λ s e. rw e (no_text c.in_default.ensures.cases.0)) c.unread_text.ensures
 
-pub returns-in-empty : goal.returns-in-empty
-returns-in-empty c =
+pub returns-in-empty-clause-said : goal.returns-in-empty-clause-said
+returns-in-empty-clause-said c =
     let text = c.in-Ok.ensures.cases in
     let same = read c.as_slice.ensures.value c.in_ok-words.ensures c.uncommented-command.ensures text.0 in
     rw c.new.ensures.bytes (no_words text.1 (sym same ∙ ap texts (nil_from_length _ (omega arith))))
 
-pub returns : goal.returns
-returns c =
+pub returns-clause-said : goal.returns-clause-said
+returns-clause-said c =
     let text = c.in-Ok.ensures.cases in
     let same = read c.as_slice.ensures.value c.in_ok-words.ensures c.uncommented-command.ensures text.0 in
     let said = rw same at c.in_ok-answer-in_default-as_slice.ensures.said in

@@ -1,4 +1,4 @@
-use Rattle.desk_bands.proofs.keywords.BandsForm.answer.Goals as goal
+use Rattle.desk_bands.proofs.keywords.BandsFormTopicInHand.answer.Goals as goal
 
 pub returns-in-Schedule : goal.returns-in-Schedule
 returns-in-Schedule c = rw c.in-Schedule.is c.carry_out-in-Schedule.ensures

@@ -1,8 +1,0 @@
-use Rattle.commands.specs.Replies.{keyed, unkeyed}
-use Rattle.desk_bands.proofs.keywords.answer.Goals as goal
-
-pub returns-in_ok-answer-in-Some : goal.returns-in_ok-answer-in-Some
-returns-in_ok-answer-in-Some c = keyed _ _ c.in-Some.ensures _ _ c.in_ok-answer-in-Some.ensures
-
-pub returns-in-None : goal.returns-in-None
-returns-in-None c = unkeyed c.in-None.ensures
