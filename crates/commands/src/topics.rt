@@ -41,8 +41,8 @@ pub fn answer_chosen<K: Topic<S>, S>(
 ) -> Result<Reply, AllocError>
     ensures { IfOk result (λ x. Chosen K.spelled K.says form.now (texts words.now) state.old state.new (said x)) }
 {
-    match first_key::<K>(words) {
-        Some((choice, rest)) => choice.answer(heap, state, rest),
+    match answer_by::<K, S>(heap, state, words)? {
+        Some(reply) => Ok(reply),
         None => Ok(Reply::Unreadable(form)),
     }
 }
