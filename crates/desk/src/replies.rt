@@ -35,6 +35,7 @@ pub fn answer_line(heap: Global, number: u64, line: &[u8]) -> Result<String, All
     ensures said { IfOk result (λ s. Responds number line.now (string_bytes s)) }
     ensures one_keyword { OneKeyword }
 {
+    // A let-else: it leaves with an answer of its own, which no `?` gives.
     let Ok(text) = std::str::from_utf8(line) else {
         return unread_text(heap, number, "a line of text");
     };

@@ -29,6 +29,7 @@ impl Command<InHand> for AskLine {
     }
 
     fn answer(&self, heap: Global, hand: &mut InHand) -> Result<Reply, AllocError> {
+        // A let-else: it leaves with an answer of its own, which no `?` gives.
         let Some(bands) = hand.ask(self.date) else {
             return Ok(Reply::Text(format!(in heap; "no bands")?));
         };

@@ -20,6 +20,7 @@ pub fn figures_of(heap: Global, values: &[i64]) -> Result<Vec<PlainClaim>, Alloc
 }
 
 /// The shares that claims hold, each after a blank.
+// A borrow made to be printed: nothing compares it.
 #[derive(Clone, Copy)]
 pub struct Shares<'a>(pub &'a [PlainClaim]);
 

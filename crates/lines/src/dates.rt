@@ -10,10 +10,8 @@ use kinds::{Date, Month};
 fn digit(byte: u8) -> Result<u8, Fault>
     ensures { Reads (Digit byte) result }
 {
-    match char::from(byte).to_digit(10) {
-        Some(n) => Ok(n as u8),
-        None => Err(Fault::Unreadable),
-    }
+    let n = char::from(byte).to_digit(10).ok_or(Fault::Unreadable)?;
+    Ok(n as u8)
 }
 
 /// The number that two digits write.

@@ -106,6 +106,7 @@ impl<T: Field> Field for Option<T> {
 pub fn first<'a, 'b, T: Field>(words: &'a [&'b str]) -> Result<(T, &'a [&'b str]), Fault>
     ensures { Splits T.writes (texts words.now) result }
 {
+    // A let-else: `ok_or(..)?` was tried, and asks for a proof.
     let Some((word, rest)) = words.split_first() else {
         return Err(Fault::Unreadable);
     };

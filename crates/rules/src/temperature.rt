@@ -12,6 +12,7 @@ pub struct Temperature {
 
 /// The temperature share A: how far the forecast lies on the way from the threshold down to the limit,
 /// kept within 0 to 1, as a part of a whole of 1 to 1,200, both in tenths of a degree.
+// No `PartialEq`: 1/2 and 2/4 are one share, and a derive would tell them apart.
 #[derive(Clone, Copy, Debug)]
 pub struct TemperatureShare {
     pub part: u16,

@@ -11,6 +11,7 @@ use crate::limits::{MOST_CLAIMED, MOST_CLAIMS};
 use kinds::Refusal;
 
 /// A claim's value, its share so far, and the remainder that its division left.
+// No `PartialEq`: nothing compares rows.
 #[derive(Clone, Copy, Default)]
 pub struct Row {
     pub value: i64,

@@ -32,6 +32,7 @@ pub struct Terms {
 }
 
 /// Whether a temperature is within its range.
+// A test and not a conversion: what comes in stays a number until the bands of a day are worked out.
 fn is_plausible(temperature: i16) -> bool
     ensures { MatchBool result (Plausible temperature) (Plausible temperature → ⊥) }
 {

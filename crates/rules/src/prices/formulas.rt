@@ -24,7 +24,8 @@ impl Prices {
 
     /// The prices by the rule of 2008, from the reference, the hub and the supplement: those of 2012, but
     /// never below half of the hub's where the pool is long, nor above one and a half of it where short.
-    // Three parameters, as in `rule_2008` of `terms`: there they are series, and a struct would have one user.
+    // Three parameters, as in `rule_2008` of `terms`: a struct, generic in what it holds, would be made at each
+    // call only to be taken apart.
     pub fn of_2008(reference: DayPrice, hub: DayPrice, supplement: DayPrice) -> Prices
         ensures { price_figures_of result ≡ from2008 reference.cents hub.cents supplement.cents }
     {
