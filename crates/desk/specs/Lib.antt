@@ -1,1 +1,4 @@
+pub mod Hands
+pub mod Asking
+pub mod Turns
 pub mod Replies

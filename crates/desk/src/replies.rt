@@ -4,9 +4,11 @@ ghost use Rattle.std.specs.Prelude.{◌≡◌, IfOk, string_bytes};
 ghost use Rattle.commands.specs.Replies.{said};
 ghost use Rattle.desk_sharing.specs.Sharings.{OneKeyword};
 ghost use Rattle.desk.specs.Replies.{unreadable, printed, Responds};
+ghost use Rattle.desk.specs.Turns.{OneTopic};
 
+use crate::hand::Hand;
+use crate::turns::answer_in_turn;
 use commands::{Reply, refused_text};
-use desk_sharing::answer;
 use lines::{split_words, uncommented};
 use std::alloc::{AllocError, Global};
 
@@ -25,15 +27,23 @@ fn reply_text(heap: Global, number: u64, reply: Option<Reply>) -> Result<String,
         Some(Reply::Text(text)) => Ok(text),
         Some(Reply::Refused(refusal)) => refused_text(heap, refusal),
         Some(Reply::Unreadable(form)) => unread_text(heap, number, form),
-        None => unread_text(heap, number, "share or amount"),
+        None => unread_text(heap, number, "share, amount, base, tolerance, bands or ask"),
     }
 }
 
-/// The text that answers the line of this number, and the empty text where the line asks for nothing.
+/// The text that answers the line of this number, and the empty text where the line asks for nothing;
+/// the hand holds what the line sets.
 /// A word is one keyword at most: no command at all is meant by a line that cannot be read.
-pub fn answer_line(heap: Global, number: u64, line: &[u8]) -> Result<String, AllocError>
-    ensures said { IfOk result (λ s. Responds number line.now (string_bytes s)) }
+#[tactic(auto, using(crate::proofs::Topics::one_topic))]
+pub fn answer_line(
+    heap: Global,
+    hand: &mut Hand,
+    number: u64,
+    line: &[u8],
+) -> Result<String, AllocError>
+    ensures said { IfOk result (λ s. Responds number line.now hand.old hand.new (string_bytes s)) }
     ensures one_keyword { OneKeyword }
+    ensures one_topic { OneTopic }
 {
     // A let-else: it leaves with an answer of its own, which no `?` gives.
     let Ok(text) = std::str::from_utf8(line) else {
@@ -43,6 +53,6 @@ pub fn answer_line(heap: Global, number: u64, line: &[u8]) -> Result<String, All
     let words = split_words(heap, command)?;
     match words.as_slice() {
         [] => Ok(String::new(heap)),
-        words => reply_text(heap, number, answer(heap, words)?),
+        words => reply_text(heap, number, answer_in_turn(heap, hand, words)?),
     }
 }

@@ -23,5 +23,5 @@ pub returns-clause-said : goal.returns-clause-said
 returns-clause-said c =
     let text = c.in-Ok.ensures.cases in
     let same = read c.as_slice.ensures.value c.in_ok-words.ensures c.uncommented-command.ensures text.0 in
-    let said = rw same at c.in_ok-answer-in_default-as_slice.ensures.said in
-    IfOk-weaker c.reply_text.result _ _ (λ s e. rw e (answer text.1 (λ none. omega (arith, simp length-map at (ap length (same ∙ none)))) _ said)) c.reply_text.ensures
+    let said = rw same at c.in_ok-answer_in_turn-in_default-as_slice.ensures in
+    IfOk-weaker c.reply_text.result _ _ (λ s e. rw e (answer text.1 (λ none. omega (arith, simp length-map at (ap length (same ∙ none)))) _ _ said)) c.reply_text.ensures
