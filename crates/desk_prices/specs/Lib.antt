@@ -1,0 +1,5 @@
+pub mod Hand
+pub mod Series
+pub mod Setting
+pub mod Asking
+pub mod Keywords
