@@ -8,4 +8,8 @@ one_topic = record {
   sharing_bands = λ j k e. search rules;
   sharing_asking = λ j k e. search rules;
   bands_asking = λ j k e. search rules;
+  prices = λ j k e. search rules;
+  sharing_prices = λ j k e. search rules;
+  bands_prices = λ j k e. search rules;
+  prices_asking = λ j k e. search rules;
 }

@@ -17,7 +17,7 @@ unreadable n form = codes "UNREADABLE " ++ (decimal n ++ (codes " expected " ++ 
 abbrev pub printed : ℕ → Option Said → List ℕ
 printed n (Some (text t)) = t
 printed n (Some (unread form)) = unreadable n form
-printed n None = unreadable n (codes "share, amount, base, tolerance, bands or ask")
+printed n None = unreadable n (codes "share, amount, base, tolerance, bands, reference, hub, supplement, prices or ask")
 
 -- the answer to line n, and the hand then: none where it has no words, else what is said to its words; or it is no text
 pub data Responds (n : ℕ) (line : List ℕ) (before : Hand) : Hand → List ℕ → Type 0 where

@@ -7,6 +7,9 @@ use Rattle.desk_sharing.specs.declared.keywords.Keyword.{Keyword as Sharing}
 use Rattle.desk_bands.specs.Keywords.{spelled as bands_word, Of as OfBands}
 use Rattle.desk_bands.specs.Setting.{InHand}
 use Rattle.desk_bands.specs.declared.keywords.Keyword.{Keyword as OnBands}
+use Rattle.desk_prices.specs.Keywords.{spelled as prices_word, Of as OfPrices}
+use Rattle.desk_prices.specs.declared.keywords.Keyword.{Keyword as OnPrices}
+use Rattle.desk_prices.specs.declared.hand.PricesInHand.{PricesInHand}
 use Rattle.desk.specs.Asking.{spelled as asking_word, Of as OfAsking}
 use Rattle.desk.specs.declared.asking.Keyword.{Keyword as Asking}
 use Rattle.desk.specs.declared.hand.Hand.{Hand}
@@ -14,9 +17,10 @@ use Rattle.desk.specs.declared.hand.Hand.{Hand}
 -- the first topic answers whose keyword the first word is, and the others stay out; sharing leaves the hand as it was
 pub data InTurn (ws : List (List ℕ)) (before : Hand) : Hand → Option Said → Type 0 where
   sharing : (x : Said) → Answered sharing_word OfSharing ws tt tt (Some x) → InTurn ws before before (Some x)
-  bands : Unkeyed sharing_word ws → (after : InHand) (x : Said) → Answered bands_word OfBands ws before.bands after (Some x) → InTurn ws before (record { bands = after }) (Some x)
-  asking : Unkeyed sharing_word ws → Unkeyed bands_word ws → (after : Hand) (x : Said) → Answered asking_word OfAsking ws before after (Some x) → InTurn ws before after (Some x)
-  unkeyed : Unkeyed sharing_word ws → Unkeyed bands_word ws → Unkeyed asking_word ws → InTurn ws before before None
+  bands : Unkeyed sharing_word ws → (after : InHand) (x : Said) → Answered bands_word OfBands ws before.bands after (Some x) → InTurn ws before (record { bands = after; prices = before.prices }) (Some x)
+  prices : Unkeyed sharing_word ws → Unkeyed bands_word ws → (after : PricesInHand) (x : Said) → Answered prices_word OfPrices ws before.prices after (Some x) → InTurn ws before (record { bands = before.bands; prices = after }) (Some x)
+  asking : Unkeyed sharing_word ws → Unkeyed bands_word ws → Unkeyed prices_word ws → (after : Hand) (x : Said) → Answered asking_word OfAsking ws before after (Some x) → InTurn ws before after (Some x)
+  unkeyed : Unkeyed sharing_word ws → Unkeyed bands_word ws → Unkeyed prices_word ws → Unkeyed asking_word ws → InTurn ws before before None
 
 -- no word is a keyword of two topics, and none spells two keywords of one
 pub record OneTopic : Type 0 where
@@ -24,3 +28,7 @@ pub record OneTopic : Type 0 where
   pub sharing_bands : (j : Sharing) (k : OnBands) → sharing_word j ≡ bands_word k → ⊥
   pub sharing_asking : (j : Sharing) (k : Asking) → sharing_word j ≡ asking_word k → ⊥
   pub bands_asking : (j : OnBands) (k : Asking) → bands_word j ≡ asking_word k → ⊥
+  pub prices : (j k : OnPrices) → prices_word j ≡ prices_word k → j ≡ k
+  pub sharing_prices : (j : Sharing) (k : OnPrices) → sharing_word j ≡ prices_word k → ⊥
+  pub bands_prices : (j : OnBands) (k : OnPrices) → bands_word j ≡ prices_word k → ⊥
+  pub prices_asking : (j : OnPrices) (k : Asking) → prices_word j ≡ asking_word k → ⊥

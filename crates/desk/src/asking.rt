@@ -26,6 +26,7 @@ impl Key for Keyword {
 #[derive(Clone, Copy, PartialEq, Eq, Debug)]
 pub enum RuleName {
     Bands,
+    Prices,
 }
 
 impl Key for RuleName {
@@ -34,6 +35,7 @@ impl Key for RuleName {
     fn of(word: &str) -> Option<RuleName> {
         match word {
             "bands" => Some(RuleName::Bands),
+            "prices" => Some(RuleName::Prices),
             _ => None,
         }
     }
@@ -45,6 +47,7 @@ impl Topic<Hand> for RuleName {
     fn answer(self, heap: Global, hand: &mut Hand, words: &[&str]) -> Result<Reply, AllocError> {
         match self {
             RuleName::Bands => desk_bands::ask(heap, &mut hand.bands, words),
+            RuleName::Prices => desk_prices::ask(heap, &mut hand.prices, words),
         }
     }
 }
@@ -55,7 +58,7 @@ impl Topic<Hand> for Keyword {
     fn answer(self, heap: Global, hand: &mut Hand, words: &[&str]) -> Result<Reply, AllocError> {
         match self {
             Keyword::Ask => {
-                answer_chosen::<RuleName, Hand>(heap, hand, words, "ask bands YYYY-MM-DD")
+                answer_chosen::<RuleName, Hand>(heap, hand, words, "bands or prices after ask")
             }
         }
     }

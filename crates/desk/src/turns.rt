@@ -24,5 +24,8 @@ pub fn answer_in_turn(
     if let Some(reply) = desk_bands::answer(heap, &mut hand.bands, words)? {
         return Ok(Some(reply));
     }
+    if let Some(reply) = desk_prices::answer(heap, &mut hand.prices, words)? {
+        return Ok(Some(reply));
+    }
     answer_by::<Keyword, Hand>(heap, hand, words)
 }
