@@ -5,6 +5,7 @@ use Rattle.commands.specs.Replies.{Said, Answered}
 use Rattle.desk_sharing.specs.Sharings.{spelled as sharing_word, Of as OfSharing}
 use Rattle.desk_sharing.specs.declared.keywords.Keyword.{Keyword as Sharing}
 use Rattle.desk_bands.specs.Keywords.{spelled as bands_word, Of as OfBands}
+use Rattle.desk_bands.specs.Setting.{InHand}
 use Rattle.desk_bands.specs.declared.keywords.Keyword.{Keyword as OnBands}
 use Rattle.desk.specs.Asking.{spelled as asking_word, Of as OfAsking}
 use Rattle.desk.specs.declared.asking.Keyword.{Keyword as Asking}
@@ -13,7 +14,7 @@ use Rattle.desk.specs.declared.hand.Hand.{Hand}
 -- the first topic answers whose keyword the first word is, and the others stay out; sharing leaves the hand as it was
 pub data InTurn (ws : List (List ℕ)) (before : Hand) : Hand → Option Said → Type 0 where
   sharing : (x : Said) → Answered sharing_word OfSharing ws tt tt (Some x) → InTurn ws before before (Some x)
-  bands : Unkeyed sharing_word ws → (after : Hand) (x : Said) → Answered bands_word OfBands ws before.bands after.bands (Some x) → InTurn ws before after (Some x)
+  bands : Unkeyed sharing_word ws → (after : InHand) (x : Said) → Answered bands_word OfBands ws before.bands after (Some x) → InTurn ws before (record { bands = after }) (Some x)
   asking : Unkeyed sharing_word ws → Unkeyed bands_word ws → (after : Hand) (x : Said) → Answered asking_word OfAsking ws before after (Some x) → InTurn ws before after (Some x)
   unkeyed : Unkeyed sharing_word ws → Unkeyed bands_word ws → Unkeyed asking_word ws → InTurn ws before before None
 

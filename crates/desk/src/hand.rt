@@ -12,7 +12,6 @@ pub struct Hand {
 
 impl Hand {
     /// The hand at the start: no bands on any date.
-    // Not `Default`: its promise is of this hand alone, and a law of the trait says nothing of it.
     pub fn new() -> Hand
         ensures { NoBands result }
     {

@@ -56,3 +56,32 @@ pub fn answer_line(
         words => reply_text(heap, number, answer_in_turn(heap, hand, words)?),
     }
 }
+
+#[cfg(test)]
+mod tests {
+    use super::answer_line;
+    use crate::hand::Hand;
+
+    #[test]
+    fn lines_are_answered_over_a_hand(rt: HostRuntime) {
+        let heap = rt.alloc();
+        let mut hand = Hand::new();
+        let none = answer_line(heap, &mut hand, 1, b"ask bands 2024-02-29").expect(
+            &rt,
+            "an answer",
+        );
+        assert!(rt; none.as_str() == "no bands");
+        let set = answer_line(heap, &mut hand, 2, b"bands fixed 4 3 2 5 6").expect(
+            &rt,
+            "an answer",
+        );
+        assert!(rt; set.as_str() == "ok");
+        let other = answer_line(heap, &mut hand, 3, b"share 1 1 5").expect(&rt, "an answer");
+        assert!(rt; other.as_str() == "total 5 shares 5");
+        let some = answer_line(heap, &mut hand, 4, b"ask bands 2024-02-29").expect(
+            &rt,
+            "an answer",
+        );
+        assert!(rt; some.as_str() == "bands 4 3 2 5 6");
+    }
+}
