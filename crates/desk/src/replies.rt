@@ -27,7 +27,11 @@ fn reply_text(heap: Global, number: u64, reply: Option<Reply>) -> Result<String,
         Some(Reply::Text(text)) => Ok(text),
         Some(Reply::Refused(refusal)) => refused_text(heap, refusal),
         Some(Reply::Unreadable(form)) => unread_text(heap, number, form),
-        None => unread_text(heap, number, "share, amount, base, tolerance, bands, reference, hub, supplement, prices or ask"),
+        None => unread_text(
+            heap,
+            number,
+            "share, amount, base, tolerance, bands, reference, hub, supplement, prices or ask",
+        ),
     }
 }
 
