@@ -1,6 +1,7 @@
 -- What the desk has in hand for prices.
 use Rattle.std.specs.Prelude.{◌≡◌, None, codes, Option}
 use Rattle.kinds.specs.declared.dates.Date.{Date}
+use Rattle.rules.specs.declared.day_price.DayPrice.{DayPrice}
 use Rattle.rules.specs.declared.monthly.Monthly.{Monthly}
 use Rattle.rules.specs.declared.prices.Prices.{Prices}
 use Rattle.rules.specs.declared.rules.Either.{Either}
@@ -22,6 +23,10 @@ on (That m) d = on_day m d
 -- no prices on any date
 abbrev pub Priceless : PriceRule → Type 0
 Priceless r = (d : Date) → on r d ≡ None
+
+-- a series, or none yet
+abbrev pub SeriesInHand : Type 0
+SeriesInHand = Option (Monthly DayPrice)
 
 -- no prices, and no series
 pub record Start (h : PricesInHand) : Type 0 where

@@ -1,8 +1,7 @@
 -- The words that begin the lines on prices, and what is said to the words after them.
-use Rattle.std.specs.Prelude.{◌≡◌, ℕ, List, [], codes, Option}
-use Rattle.rules.specs.declared.day_price.DayPrice.{DayPrice}
-use Rattle.rules.specs.declared.monthly.Monthly.{Monthly}
+use Rattle.std.specs.Prelude.{◌≡◌, ℕ, List, [], codes}
 use Rattle.commands.specs.Replies.{Said, Replied, Chosen}
+use Rattle.desk_prices.specs.Hand.{SeriesInHand}
 use Rattle.desk_prices.specs.Series.{SeriesWords, SeriesSet}
 use Rattle.desk_prices.specs.Setting.{NoneSet, FixedWords, FixedSet, Set2012, Set2008}
 use Rattle.desk_prices.specs.declared.hand.PricesInHand.{PricesInHand}
@@ -37,7 +36,7 @@ OfForm Of2012 ws s t y = Replied {C = Line2012} (λ vs _. vs ≡ []) (λ _. Set2
 OfForm Of2008 ws s t y = Replied {C = Line2008} (λ vs _. vs ≡ []) (λ _. Set2008) (codes "prices 2008") ws s t y
 
 -- what is said to the words of a series, and the series then
-abbrev pub SeriesSaid : List ℕ → List (List ℕ) → Option (Monthly DayPrice) → Option (Monthly DayPrice) → Said → Type 0
+abbrev pub SeriesSaid : List ℕ → List (List ℕ) → SeriesInHand → SeriesInHand → Said → Type 0
 SeriesSaid = Replied SeriesWords SeriesSet
 
 -- and to the words after a keyword: that of a series changes its own series and nothing else

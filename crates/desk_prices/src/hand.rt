@@ -9,13 +9,16 @@ use rules::rules::{Either, Fixed};
 /// A price rule: fixed, or a month's.
 pub type PriceRule = Either<Fixed<Prices>, Monthly<Prices>>;
 
+/// A series in hand, or none yet.
+pub type SeriesInHand = Option<Monthly<DayPrice>>;
+
 /// The price rule that the desk has in hand, and the last series given of each kind.
 #[derive(PartialEq, Eq, Debug, Drop)]
 pub struct PricesInHand {
     pub rule: PriceRule,
-    pub reference: Option<Monthly<DayPrice>>,
-    pub hub: Option<Monthly<DayPrice>>,
-    pub supplement: Option<Monthly<DayPrice>>,
+    pub reference: SeriesInHand,
+    pub hub: SeriesInHand,
+    pub supplement: SeriesInHand,
 }
 
 impl PricesInHand {

@@ -5,8 +5,8 @@ ghost use Rattle.lines.specs.Words.{texts};
 ghost use Rattle.commands.specs.Replies.{said, Answered};
 ghost use Rattle.desk_prices.specs.Keywords.{spelled, spelled_form, Of, OfForm};
 
-use crate::hand::PricesInHand;
-use crate::series::{SeriesInHand, SeriesLine};
+use crate::hand::{PricesInHand, SeriesInHand};
+use crate::series::SeriesLine;
 use crate::setting::{FixedLine, Line2008, Line2012, NoneLine};
 use commands::{Key, Reply, Topic, answer_by, answer_chosen, carry_out};
 use std::alloc::{AllocError, Global};

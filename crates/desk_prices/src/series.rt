@@ -1,17 +1,13 @@
 //! The line that gives a series of day prices.
 ghost use Rattle.desk_prices.specs.Series.{SeriesWords, SeriesSet};
 
+use crate::hand::SeriesInHand;
 use commands::{Command, Reply, Row};
 use kinds::Month;
 use lines::{Fault, Field};
-use rules::day_price::DayPrice;
-use rules::monthly::Monthly;
 use std::alloc::{AllocError, Global};
 use terms::RuleError;
 use terms::series::series;
-
-/// A series in hand, or none yet.
-pub type SeriesInHand = Option<Monthly<DayPrice>>;
 
 /// The words after `reference`, `hub` or `supplement`: a month, and a value or a dash for each of its
 /// days. The state of the line is the one series that it changes.
