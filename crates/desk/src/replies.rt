@@ -37,7 +37,8 @@ fn reply_text(heap: Global, number: u64, reply: Option<Reply>) -> Result<String,
 
 /// The text that answers the line of this number, and the empty text where the line asks for nothing;
 /// the hand holds what the line sets.
-/// A word is one keyword at most: no command at all is meant by a line that cannot be read.
+/// A word is one keyword at most: by a line that cannot be read no command at all is meant, or a price
+/// rule that needs a series which was never given.
 #[tactic(auto, using(crate::proofs::Topics::one_topic))]
 pub fn answer_line(
     heap: Global,
