@@ -8,6 +8,7 @@ pub mod rows;
 pub mod topics;
 
 pub use keys::{Key, first_key};
+pub use lines::dates::DateText;
 pub use refusals::refused_text;
 pub use replies::{Command, Reply, carry_out};
 pub use rows::Row;

@@ -3,8 +3,9 @@ ghost use Rattle.desk_sharing.specs.Sharings.{ShareWords, Shares, AmountWords, A
 
 use crate::figures::{Shares, figures_of};
 use commands::{Command, Reply, Row};
+use kinds::Refusal;
 use lines::Fault;
-use sharing::{Fraction, share, share_amount};
+use sharing::{Fraction, MOST_CLAIMS, share, share_amount};
 use std::alloc::{AllocError, Global};
 
 /// `share P Q V..`: the fraction P / Q of each of the claims V.
@@ -26,6 +27,10 @@ impl Command<()> for ShareLine {
     }
 
     fn answer(&self, heap: Global, _state: &mut ()) -> Result<Reply, AllocError> {
+        // Tested before as many claims are made as a line can name.
+        if self.claims.len() > MOST_CLAIMS {
+            return Ok(Reply::Refused(Refusal::TooManyClaims));
+        }
         let mut figures = figures_of(heap, self.claims.as_slice())?;
         let claims = figures.as_mut_slice();
         match share(claims, self.fraction) {
@@ -57,6 +62,10 @@ impl Command<()> for AmountLine {
     }
 
     fn answer(&self, heap: Global, _state: &mut ()) -> Result<Reply, AllocError> {
+        // As in a line that shares a fraction.
+        if self.weights.len() > MOST_CLAIMS {
+            return Ok(Reply::Refused(Refusal::TooManyClaims));
+        }
         let mut figures = figures_of(heap, self.weights.as_slice())?;
         let claims = figures.as_mut_slice();
         match share_amount(claims, self.amount) {

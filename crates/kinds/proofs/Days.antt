@@ -48,7 +48,13 @@ between d e h p none = record {
   first = λ x g q. ⊎_elim inr (⊎_elim inl (λ b. absurd (none x g q b))) (before_total e x);
 }
 
--- the next day of the last day of a month, before December and in December
+-- the next day, by `OneNext` the only one, of a day that is not the last of its month
+pub next_in_month : (d : Date) → Exists d → (Last d → ⊥) → Tomorrow d (date d.year d.month (d.day + 1))
+next_in_month d h n =
+    let p : d.day < days_of d.year d.month = grind arith in
+    between _ _ (record { from = omega arith; to = omega arith }) (grind arith) (λ x g q b. omega arith)
+
+-- of the last day of a month, before December and in December
 pub next_month : (d : Date) → Last d → d.month < 12 → Tomorrow d (date d.year (d.month + 1) 1)
 next_month d h p =
     between _ _ (record { from = omega arith; to = omega (arith, shortest d.year (d.month + 1)) }) (grind arith)

@@ -46,7 +46,7 @@ impl Kind for i64 {
     ghost holds = { Prim.search rules };
 
     fn number(self) -> i64 {
-        self
+        self // no unit
     }
 
     fn of(n: i64) -> i64 {
@@ -63,7 +63,7 @@ impl Kind for Metered {
     ghost holds = { Prim.search rules };
 
     fn number(self) -> i64 {
-        self.0
+        self.0 // kWh as metered
     }
 
     fn of(n: i64) -> Metered {
@@ -79,7 +79,7 @@ impl Kind for Energy {
     ghost holds = { Prim.search rules };
 
     fn number(self) -> i64 {
-        self.0
+        self.0 // kWh at 25°
     }
 
     fn of(n: i64) -> Energy {
@@ -95,7 +95,7 @@ impl Kind for Cents {
     ghost holds = { Prim.search rules };
 
     fn number(self) -> i64 {
-        self.0
+        self.0 // cents
     }
 
     fn of(n: i64) -> Cents {

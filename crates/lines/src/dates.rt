@@ -1,10 +1,12 @@
 //! Months and dates, read from words.
-ghost use Rattle.std.specs.Prelude.{[], ◌∷◌};
+ghost use Rattle.std.specs.Prelude.{[], ◌∷◌, Some};
+ghost use Rattle.kinds.specs.Texts.{dated};
 ghost use Rattle.lines.specs.Readers.{Reads};
 ghost use Rattle.lines.specs.Dates.{Digit, Pair, Monthly, MonthWord, DateWord, CalendarWord};
 
 use crate::fields::{Fault, Field};
 use kinds::{Date, Month};
+use std::fmt;
 
 /// The number that a digit writes.
 fn digit(byte: u8) -> Result<u8, Fault>
@@ -78,5 +80,26 @@ impl Field for Date {
             return Err(Fault::Unreadable);
         }
         Ok(date)
+    }
+}
+
+/// A date as its word writes it, in the calendar or not.
+#[derive(Clone, Copy, PartialEq, Eq, Debug)]
+pub struct DateText(pub Date);
+
+/// YYYY-MM-DD.
+impl fmt::Display for DateText {
+    ghost output = { λ x. Some (dated x.0) };
+
+    fn fmt<W: fmt::Write>(&self, f: &mut fmt::Formatter<W>) -> fmt::Result {
+        write!(f, "{}", self.0)
+    }
+}
+
+impl Field for DateText {
+    ghost writes = { λ w x. DateWord w x.0 };
+
+    fn read(word: &str) -> Result<DateText, Fault> {
+        Ok(DateText(date_of(word.as_bytes())?))
     }
 }

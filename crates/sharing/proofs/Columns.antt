@@ -51,7 +51,7 @@ module _ {X : Type 0} (told held : X → ℤ) (taking : X → ℤ → X) (holds 
   at_column : (f : X → ℤ) (k : ℕ) (d : X) → k < length xs → at (map f zs) k ≡ f (taking (get_or xs k d) (at ss k))
   at_column f k d l = get_or-map f zs k d (pos 0) (omega arith) ∙ ap f (h k d l)
 
-  takes_held : map held zs ≡ ss
+  pub takes_held : map held zs ≡ ss
   takes_held = column_all held (pos 0) zs ss (same ∙ sym long) (λ k l.
       let m : k < length xs = omega arith in at_column held k (any xs k m) m ∙ holds _ _)
 

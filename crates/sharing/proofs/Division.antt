@@ -1,5 +1,5 @@
 -- Division of a product: the quotient rounded downward, the remainder, and their sizes.
-use Rattle.std.proofs.Common.{◌≡◌, ℕ, ◌*◌, ◌<◌, ◌≤◌, ℤ, pos, negsuc, ◌+ℤ◌, ◌*ℤ◌, nat_abs, ◌<ℤ◌, ap, mul-le-mul_left, arith}
+use Rattle.std.proofs.Common.{◌≡◌, ℕ, ◌+◌, ◌*◌, ◌<◌, ◌≤◌, ℤ, pos, negsuc, ◌+ℤ◌, ◌*ℤ◌, nat_abs, ◌<ℤ◌, ap, mul-le-mul_left, arith}
 use borrow.Author.Differences.{le_out}
 use Rattle.std.proofs.lemmas.Int.{ints, by_lt_z, unsigned_abs-mul}
 use Rattle.std.specs.Int.{int_div_euclid, int_rem_euclid}
@@ -19,6 +19,12 @@ rest_below (negsuc a) q h = omega arith
 quotient_size : (z : ℤ) (q : ℕ) → 0 < q → nat_abs (int_div_euclid z (pos q)) ≤ nat_abs z
 quotient_size (pos a) q h = omega arith
 quotient_size (negsuc a) q h = omega arith
+
+pub sum_size : (a b : ℤ) → nat_abs (a +ℤ b) ≤ nat_abs a + nat_abs b
+sum_size (pos a) (pos b) = omega arith
+sum_size (pos a) (negsuc b) = grind arith
+sum_size (negsuc a) (pos b) = grind arith
+sum_size (negsuc a) (negsuc b) = omega arith
 
 pub cancel : (m : ℕ) (a b : ℤ) → (pos m *ℤ a) <ℤ (pos m *ℤ b) → a <ℤ b
 cancel m a b h = by_lt_z a b (λ l. l) (λ l. absurd (omega (arith, ints, mul-le-mul_left m (le_out b a l))))

@@ -7,7 +7,6 @@ ghost use Rattle.sharing.specs.Steps.{sum_to, total, floors, rests, rank_of, due
 
 use crate::fractions::Fraction;
 use crate::rows::Row;
-use std::cmp::Reverse;
 
 // That the values stay, and that the limits hold, stands in each contract: both tie a table that is lent
 // to a fraction, so no type of its own could hold them while the table is written.
@@ -40,10 +39,16 @@ fn rank(rows: &[Row], i: usize) -> usize
     ensures { result ≡ rank_of (length rows.now) (rest_at rows.now) i }
 {
     let own = rows[i].rest;
+    // A sum of ones and noughts, and equal remainders tested first: which remainder is the larger no
+    // processor can guess, so no branch goes by it, as one of a filter or an `||` would.
     rows.iter()
         .enumerate()
-        .filter(|(j, row)| (Reverse(row.rest), *j) < (Reverse(own), i))
-        .count()
+        .map(|(j, row)| usize::from(if row.rest == own {
+            j < i
+        } else {
+            row.rest > own
+        }))
+        .sum()
 }
 
 /// Hands out the units that are lacking, one each, to the places with the largest remainders.

@@ -10,4 +10,5 @@ mod shares;
 
 pub use claims::{CarriedClaim, Claim, EnergyClaim, MeteredClaim, PlainClaim, Stake};
 pub use fractions::Fraction;
+pub use limits::MOST_CLAIMS;
 pub use shares::{share, share_amount};

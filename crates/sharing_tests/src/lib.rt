@@ -3,7 +3,7 @@
 
 #[cfg(test)]
 mod tests {
-    use kinds::{Energy, Kind, Metered, Refusal};
+    use kinds::{Cents, Energy, Kind, Metered, Refusal};
     use sharing::{CarriedClaim, EnergyClaim, Fraction, MeteredClaim, Stake, share, share_amount};
 
     // A claim of this number, which holds 7.
@@ -14,12 +14,13 @@ mod tests {
         }
     }
 
+    // The kinds are named here too, so that a claim of other kinds is refused.
     fn energy(kwh: i64) -> EnergyClaim {
-        claim(kwh)
+        claim::<Energy, Energy>(kwh)
     }
 
     fn carried(kwh: i64) -> CarriedClaim {
-        claim(kwh)
+        claim::<Energy, Cents>(kwh)
     }
 
     // The total, or the number of the refusal: by it the outside knows a refusal.

@@ -47,8 +47,7 @@ pub fn rule_2012(
     let month = reference.month;
     over(heap, month, reference.days.len(), |place| {
         let referred = price_at(reference, month, place)?;
-        let supplied = price_at(supplement, month, place)?;
-        Some(Prices::of_2012(referred, supplied))
+        Some(Prices::of_2012(referred, price_at(supplement, month, place)?))
     })
 }
 

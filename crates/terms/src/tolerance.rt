@@ -38,7 +38,11 @@ fn inside(base: u32, low: u32, high: u32) -> u64
 fn bracket(base: u32) -> u8
     ensures { Ends base result }
 {
-    1 + BRACKETS[1..].iter().filter(|(low, _)| *low < base).count() as u8
+    let above: u8 = BRACKETS[1..]
+        .iter()
+        .map(|(low, _)| u8::from(*low < base))
+        .sum();
+    1 + above
 }
 
 impl Perimeter {

@@ -1,9 +1,14 @@
-use Rattle.std.proofs.Common.{sym, subst, w64, rules}
+use Rattle.std.proofs.Common.{sym, subst, w64, rules, arith}
 use Rattle.std.proofs.lemmas.Int.{to_z-of_z}
 use Rattle.commands.specs.Replies.{text}
+use Rattle.sharing.specs.Limits.{many}
+use Rattle.sharing.specs.Amounts.{weights}
 use Rattle.desk_sharing.specs.Sharings.{Amounts, given, denied}
 use Rattle.desk_sharing.proofs.Telling.{tell}
 use Rattle.desk_sharing.proofs.sharings.AmountLineCommandUnit.answer.Goals as goal
+
+pub returns-then-len-gt-MOST_CLAIMS : goal.returns-then-len-gt-MOST_CLAIMS
+returns-then-len-gt-MOST_CLAIMS c = denied _ (weights _ (many (omega (arith, c.if-len-gt-MOST_CLAIMS.true, c.len.ensures))))
 
 pub returns-in-Ok : goal.returns-in-Ok
 returns-in-Ok c =
